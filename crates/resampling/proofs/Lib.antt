@@ -1,0 +1,4 @@
+pub mod Owners
+pub mod Passes
+pub mod Shares
+pub mod Tallies

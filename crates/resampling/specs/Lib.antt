@@ -1,0 +1,5 @@
+pub mod Marks
+pub mod Children
+pub mod Systematic
+pub mod Calls
+pub mod Examples
