@@ -19,6 +19,8 @@ use Rattle.std.proofs.shelf.Sums.{sumBy-cons, countBy-le-length}
 use Rattle.resampling.specs.Marks.{total, before, mark, Has, owner, parent, parents}
 use Rattle.resampling.specs.Children.{among, children, Rounded, Fair}
 use Rattle.resampling.specs.Systematic.{Systematic}
+use Rattle.resampling.specs.Calls.{all-below}
+use Rattle.resampling.proofs.Tallies.{below-from}
 use Rattle.resampling.proofs.Owners.{Order, order, before-le-total, before-mono, before-all, before-more, mark-from-owner, owner-from-mark, owner-has, one-owner, mark-low}
 
 one-if : Bool → ℕ
@@ -241,3 +243,9 @@ module _ (ws : List ℕ) (u : ℕ) (hu : u < total ws) where
         let whole : length ws * (before ws (length ws) - before ws 0) ≡ length ws * total ws = ap (λ (x : ℕ). length ws * x) (omega (arith, before-all ws)) in
         rounded-whole (children (parents ws u) 0 (length ws)) (length ws) (total ws) (omega arith) (subst (λ (x : ℕ). Rounded (children (parents ws u) 0 (length ws)) x (total ws)) whole (fair ws u hu 0 (length ws) zero-le (omega arith)));
   }
+
+-- every parent is a particle
+pub parents-below : (ws : List ℕ) (u : ℕ) → u < total ws → all-below (length (parents ws u)) (parents ws u) ≡ true
+parents-below ws u hu =
+    let s : Systematic ws u (parents ws u) = systematic ws u hu in
+    below-from (length (parents ws u)) (parents ws u) (λ k h. let l : k < length ws = omega (arith, s .count) in omega (arith, s .count, s .marked k l .within))

@@ -20,6 +20,10 @@ below-at n [] k e h = absurd (not-suc-le-zero h)
 below-at n (p ∷ ps) zero e h = ltb-true p n (and-parts _ _ e .0)
 below-at n (p ∷ ps) (suc k) e h = below-at n ps k (and-parts _ _ e .1) (le-of-suc-le-suc h)
 
+pub below-from : (n : ℕ) (ps : List ℕ) → ((k : ℕ) → k < length ps → getD ps k 0 < n) → all-below n ps ≡ true
+below-from n [] each = refl
+below-from n (p ∷ ps) each = and-from _ _ (lt-ltb p n (each 0 (omega arith))) (below-from n ps (λ k h. each (suc k) (omega arith)))
+
 among-itself : (p : ℕ) → among p (p + 1) p ≡ true
 among-itself p = and-from _ _ (le-leb p p (omega arith)) (lt-ltb p (p + 1) (omega arith))
 
