@@ -7,6 +7,7 @@ use native.Mathlib.Omega.{arith}
 use lib.Dec.{leb}
 use lib.ListN.{length}
 use Rattle.std.specs.Of.Vec.{vec-items}
+use Rattle.std.specs.Vec.{made}
 use Rattle.std.specs.declared.alloc.Global.{Global}
 use Rattle.std.specs.declared.vec.Vec.{Vec}
 use Rattle.std.specs.declared.result.Result.{Result}
@@ -18,15 +19,17 @@ use Rattle.refusals.specs.declared.Refusal.the-variants.{OutOfRange, NoRoom}
 use Rattle.resampling.specs.Marks as marks
 use Rattle.resampling.specs.Marks.{total, offset, parent}
 use Rattle.resampling.specs.Children.{children-of-each}
+use Rattle.resampling.specs.Systematic.{Systematic}
 use Rattle.resampling.specs.Calls.{in-range, all-below, total-of, fitting, children-reply}
 use Rattle.resampling.proofs.Owners.{offset-below}
-use Rattle.resampling.proofs.Shares.{parents-below}
+use Rattle.resampling.proofs.Shares.{systematic, parents-below}
 use Rattle.resampling.proofs.Replies.{total-granted}
 use Rattle.exercise.specs.declared.fault.Fault.{Fault}
 use Rattle.exercise.specs.declared.fault.Failure.{Failure}
 use Rattle.exercise.specs.declared.fault.Failure.the-variants.{Memory, Told}
-use Rattle.exercise.specs.Answers.{Answer, in-call, answer, parents-of, children-of}
-use Rattle.exercise.specs.Outcomes.{Yields}
+use Rattle.exercise.specs.Answers.{Answer, in-call, answer, answer-of, parents-of, children-of}
+use Rattle.exercise.specs.declared.solution.Solution.{Solution}
+use Rattle.exercise.specs.Outcomes.{Yields, solution-view}
 
 pub answer-is : (w o : ℕ) (ps cs : List ℕ) {o′ : ℕ} {ps′ cs′ : List ℕ} → o ≡ o′ → ps ≡ ps′ → cs ≡ cs′ → _≡_ {A = Answer} (record { total = w; offset = o; parents = ps; children = cs }) (record { total = w; offset = o′; parents = ps′; children = cs′ })
 answer-is w o ps cs {o′} {ps′} p q r =
@@ -60,3 +63,14 @@ module _ (ws : List ℕ) (r w : ℕ) (small : r < 2 ^ 32) (told : Ok w ≡ total
   pub only-memory : {X : Type 0} (view : X → Answer) (wanted : Result Answer Fault) (ps : List ℕ) (f : Failure) → parents-of ws r ≡ Ok ps → Yields {X = Vec ℕ Global} vec-items (Err f) (children-of ps) → Yields view (Err f) wanted
   only-memory view wanted ps Memory e h = tt
   only-memory view wanted ps (Told f) e h = let ok = the-children ps e in let z : _≡_ {A = ℕ} 0 1 = cc in absurd (omega arith)
+
+-- the parents of an answer are those of systematic resampling
+answered-systematic : (ws : List ℕ) (r : ℕ) (t : Result ℕ Refusal) (a : Answer) → r < 2 ^ 32 → total-of ws ≡ t → in-call (answer ws r) t ≡ Ok a → Systematic ws (a .offset) (a .parents)
+answered-systematic ws r (Ok w) a small told h =
+    let same : answer ws r w ≡ a = cc in
+    subst (λ (x : Answer). Systematic ws (x .offset) (x .parents)) same (systematic ws (offset r w) (inside ws r w small (sym told)))
+answered-systematic ws r (Err e) a small told h = let z : _≡_ {A = ℕ} 0 1 = cc in absurd (omega arith)
+
+pub worked-systematic : (ws : List ℕ) (r : ℕ) → r < 2 ^ 32 → (s : Result Solution Failure) → Yields solution-view s (answer-of ws r) → made s (λ x. Systematic ws (x .offset) (vec-items (x .parents)))
+worked-systematic ws r small (Ok x) h = answered-systematic ws r (total-of ws) (solution-view x) small refl h
+worked-systematic ws r small (Err f) h = tt

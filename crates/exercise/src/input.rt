@@ -1,10 +1,15 @@
 // The input of an exercise: a line of weights, and a line with the drawn number.
 ghost use mathlib.Core.Path.{_≡_};
+ghost use mathlib.Core.List.{List};
+ghost use Prim.Native.Nat.{ℕ};
 ghost use Rattle.std.specs.Of.Vec.{vec-items};
 ghost use Rattle.std.specs.Options.{mapped};
+ghost use Rattle.std.specs.Vec.{made};
+ghost use Rattle.std.specs.declared.result.Result.the-variants.{Ok};
 ghost use Rattle.fields.specs.Cuts.{fields, lines};
 ghost use Rattle.exercise.specs.Inputs.{pair-of, two-lines, only-field, shape-of, weights-of, drawn-of, exercise-of};
 ghost use Rattle.exercise.specs.Outcomes.{in-result, Yields, exercise-view};
+ghost use Rattle.exercise.specs.Written.{Written};
 use crate::fault::Failure;
 use crate::fault::FailureFromFault;
 use crate::fault::Fault;
@@ -80,12 +85,20 @@ fn read_drawn(field: &[u8]) -> Result<u32, Fault>
     }
 }
 
-// The weights and the drawn number, or the first fault.
-pub fn read_exercise(heap: Global, input: &[u8]) -> Result<Exercise, Failure>
+fn read_parts(heap: Global, input: &[u8]) -> Result<Exercise, Failure>
     ensures { λ r. ⌜ Yields exercise-view r (exercise-of (now (input .entry))) ⌝ }
 {
     let (line, field) = read_shape(input)?;
     let weights = read_weights(heap, line)?;
     let drawn = read_drawn(field)?;
     Ok(Exercise { weights, drawn })
+}
+
+// The weights and the drawn number, or the first fault. An exercise is read exactly when the input is written in its form.
+pub fn read_exercise(heap: Global, input: &[u8]) -> Result<Exercise, Failure>
+    ensures read { λ r. ⌜ Yields exercise-view r (exercise-of (now (input .entry))) ⌝ }
+    ensures written { λ r. ⌜ made r (λ e. Written (vec-items (e .weights)) (e .drawn) (now (input .entry))) ⌝ }
+    ensures all { λ _. ⌜ ((ws : List ℕ) (n : ℕ) → Written ws n (now (input .entry)) → exercise-of (now (input .entry)) ≡ Ok (ws, n)) ⌝ }
+{
+    read_parts(heap, input)
 }

@@ -2,6 +2,8 @@
 ghost use mathlib.Core.Path.{_≡_};
 ghost use Rattle.std.specs.Of.Vec.{vec-items};
 ghost use Rattle.std.specs.declared.option.Option.the-variants.{Some};
+ghost use Rattle.std.specs.Vec.{made};
+ghost use Rattle.resampling.specs.Systematic.{Systematic};
 ghost use Rattle.exercise.specs.Outcomes.{Yields, solution-view};
 ghost use Rattle.exercise.specs.Answers.{parents-of, children-of, answer-of, answer-text};
 use crate::fault::Failure;
@@ -55,8 +57,7 @@ fn children_of(heap: Global, parents: &[u16]) -> Result<Vec<u16>, Failure>
     Ok(children)
 }
 
-// Works the exercise out, or tells why it cannot be.
-pub fn solve(heap: Global, weights: &[u16], drawn: u32) -> Result<Solution, Failure>
+fn work_out(heap: Global, weights: &[u16], drawn: u32) -> Result<Solution, Failure>
     ensures { λ r. ⌜ Yields solution-view r (answer-of (now (weights .entry)) drawn) ⌝ }
 {
     let total = total_weight(weights)?;
@@ -69,4 +70,12 @@ pub fn solve(heap: Global, weights: &[u16], drawn: u32) -> Result<Solution, Fail
         parents,
         children,
     })
+}
+
+// Works the exercise out, or tells why it cannot be.
+pub fn solve(heap: Global, weights: &[u16], drawn: u32) -> Result<Solution, Failure>
+    ensures answer { λ r. ⌜ Yields solution-view r (answer-of (now (weights .entry)) drawn) ⌝ }
+    ensures systematic { λ r. ⌜ made r (λ s. Systematic (now (weights .entry)) (s .offset) (vec-items (s .parents))) ⌝ }
+{
+    work_out(heap, weights, drawn)
 }

@@ -1,5 +1,6 @@
 pub mod Cutting
 pub mod Digits
+pub mod Exact
 pub mod Joining
 pub mod Listing
 pub mod Writing

@@ -6,7 +6,9 @@ use Prim.Native.Nat.{ℕ, _<_}
 use lib.ListN.{length}
 use Rattle.std.specs.shelf.Lists.{All}
 use Rattle.std.specs.Joined.{joined}
+use Rattle.std.specs.declared.result.Result.the-variants.{Ok}
 use Rattle.fields.specs.Cuts.{fields, lines}
+use Rattle.fields.specs.Lists.{numbers-of, Numerals}
 
 -- pieces joined by c
 abbrev pub join-by : ℕ → List (List ℕ) → List ℕ
@@ -39,3 +41,7 @@ abbrev pub Lines-alone : Type 0
 Lines-alone =
     (ls : List (List ℕ)) (l : List ℕ) → All (Lacks 10) ls → Lacks 10 l
     → (lines (end-by 10 ls) ≡ ls) × (0 < length l → lines (end-by 10 ls ++ l) ≡ ls ++ (l ∷ []))
+
+-- fields are read as numbers exactly when they are numerals of them
+abbrev pub Numbers-exact : Type 0
+Numbers-exact = (k limit : ℕ) (fs : List (List ℕ)) (ns : List ℕ) → (numbers-of k limit fs ≡ Ok ns → Numerals limit fs ns) × (Numerals limit fs ns → numbers-of k limit fs ≡ Ok ns)

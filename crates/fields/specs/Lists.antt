@@ -10,7 +10,7 @@ use Rattle.std.specs.declared.result.Result.the-variants.{Ok, Err}
 use Rattle.fields.specs.declared.fault.FieldFault.{FieldFault}
 use Rattle.fields.specs.declared.list.ListFault.{ListFault}
 use Rattle.fields.specs.declared.list.ListFault.the-variants.{Memory, Field}
-use Rattle.fields.specs.Numbers.{read-field}
+use Rattle.fields.specs.Numbers.{Numeral, read-field}
 
 -- a number before others, where all of them can be read; else the leftmost fault
 abbrev pub before-others : {F : Type 0} → Result ℕ F → Result (List ℕ) F → Result (List ℕ) F
@@ -22,6 +22,13 @@ before-others (Err f) r = Err f
 abbrev pub numbers-of : ℕ → ℕ → List (List ℕ) → Result (List ℕ) FieldFault
 numbers-of k limit [] = Ok []
 numbers-of k limit (f ∷ fs) = before-others (read-field k limit f) (numbers-of (k + 1) limit fs)
+
+-- the fields are numerals of the numbers, one by one
+abbrev pub Numerals : ℕ → List (List ℕ) → List ℕ → Type 0
+Numerals limit [] [] = Unit {0}
+Numerals limit [] (n ∷ ns) = ⊥
+Numerals limit (f ∷ fs) [] = ⊥
+Numerals limit (f ∷ fs) (n ∷ ns) = Numeral limit f n × Numerals limit fs ns
 
 -- r is what is to be read, unless memory was wanting
 abbrev pub Reads : Result (Vec ℕ Global) ListFault → Result (List ℕ) FieldFault → Type 0
