@@ -18,13 +18,12 @@ use Rattle.std.specs.declared.result.Result.{Result}
 use Rattle.std.specs.declared.result.Result.the-variants.{Ok, Err}
 use Rattle.std.proofs.shelf.Elements.{all-append}
 use Rattle.std.proofs.shelf.Lists.{append-nil, append-cancel-right}
-use Rattle.std.proofs.shelf.Numerals.{tells-allDigits}
 use Rattle.fields.specs.declared.fault.FieldFault.{FieldFault}
 use Rattle.fields.specs.Cuts.{fields, lines}
 use Rattle.fields.specs.Numbers.{Numeral, read-field}
 use Rattle.fields.specs.Lists.{numbers-of, Numerals}
 use Rattle.fields.specs.Laws.{join-by, end-by, Lacks}
-use Rattle.fields.proofs.Exact.{numeral-from-read, read-from-numeral, numbers-exact}
+use Rattle.fields.proofs.Exact.{digits-lack, numeral-from-read, read-from-numeral, numbers-exact}
 use Rattle.fields.proofs.Joining.{fields-join, fields-alone, lines-join, lines-alone}
 use Rattle.exercise.specs.declared.fault.Fault.{Fault}
 use Rattle.exercise.specs.declared.fault.Fault.the-variants.{TooLong, Shape, Field}
@@ -37,11 +36,6 @@ use Rattle.exercise.specs.Written.{Written}
 
 apart : {X Y : Type 0} (y : Y) (f : Fault) → _≡_ {A = Result Y Fault} (Err f) (Ok y) → X
 apart y f h = let z : _≡_ {A = ℕ} 0 1 = cc in absurd (omega arith)
-
--- digits are no separators
-digits-lack : (c : ℕ) (ds : List ℕ) → c < 48 → allDigits ds ≡ true → Lacks c ds
-digits-lack c [] h e = tt
-digits-lack c (d ∷ ds) h e = let p = tells-allDigits .parts d ds e in ((λ same. omega (arith, p .0 .0)), digits-lack c ds h (p .1))
 
 numerals-lack : (c limit : ℕ) (fs : List (List ℕ)) (ns : List ℕ) → c < 48 → Numerals limit fs ns → All (Lacks c) fs
 numerals-lack c limit [] [] h e = tt

@@ -22,8 +22,8 @@ use std::fmt;
 pub struct Solution {
     pub total: u32,
     pub offset: u32,
-    pub parents: Vec<u16>,
-    pub children: Vec<u16>,
+    pub parents: Vec<u32>,
+    pub children: Vec<u32>,
 }
 
 pub impl fmt::Display for Solution as SolutionDisplay {
@@ -41,18 +41,18 @@ pub impl fmt::Display for Solution as SolutionDisplay {
     }
 }
 
-fn parents_of(heap: Global, weights: &[u16], drawn: u32) -> Result<Vec<u16>, Failure>
+fn parents_of(heap: Global, weights: &[u16], drawn: u32) -> Result<Vec<u32>, Failure>
     ensures { λ r. ⌜ Yields vec-items r (parents-of (now (weights .entry)) drawn) ⌝ }
 {
-    let mut parents = vec![in heap; 0u16; weights.len()]?;
+    let mut parents = vec![in heap; 0u32; weights.len()]?;
     write_parents(weights, drawn, &mut parents)?;
     Ok(parents)
 }
 
-fn children_of(heap: Global, parents: &[u16]) -> Result<Vec<u16>, Failure>
+fn children_of(heap: Global, parents: &[u32]) -> Result<Vec<u32>, Failure>
     ensures { λ r. ⌜ Yields vec-items r (children-of (now (parents .entry))) ⌝ }
 {
-    let mut children = vec![in heap; 0u16; parents.len()]?;
+    let mut children = vec![in heap; 0u32; parents.len()]?;
     write_children(parents, &mut children)?;
     Ok(children)
 }

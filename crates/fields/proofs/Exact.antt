@@ -9,13 +9,14 @@ use lib.Dec.{leb}
 use lib.ListN.{length}
 use Rattle.std.specs.Reads.{value}
 use Rattle.std.specs.shelf.Text.{allDigits}
+use Rattle.std.proofs.shelf.Numerals.{tells-allDigits}
 use Rattle.std.specs.declared.result.Result.{Result}
 use Rattle.std.specs.declared.result.Result.the-variants.{Ok, Err}
 use Rattle.fields.specs.declared.fault.FieldFault.{FieldFault}
 use Rattle.fields.specs.declared.fault.FieldFault.the-variants.{NotDigit, AboveLimit}
 use Rattle.fields.specs.Numbers.{Numeral, read-field}
 use Rattle.fields.specs.Lists.{before-others, numbers-of, Numerals}
-use Rattle.fields.specs.Laws.{Numbers-exact}
+use Rattle.fields.specs.Laws.{Lacks, Numbers-exact}
 
 apart : {X Y F : Type 0} (x : Y) (f : F) → _≡_ {A = Result Y F} (Err f) (Ok x) → X
 apart x f h = let z : _≡_ {A = ℕ} 0 1 = cc in absurd (omega arith)
@@ -37,6 +38,11 @@ read-from-numeral k limit (b ∷ bs) n h =
     ap (λ t. cond t (cond (leb (value 10 (b ∷ bs)) limit) (Ok (value 10 (b ∷ bs))) (Err (AboveLimit k))) (Err (NotDigit k))) (h .only-digits)
     ∙ ap (λ t. cond t (Ok (value 10 (b ∷ bs))) (Err (AboveLimit k))) (le-leb (value 10 (b ∷ bs)) limit (omega (arith, h .stands-for, h .at-most)))
     ∙ ap (λ v. Ok v) (h .stands-for)
+
+-- digits are no separators
+pub digits-lack : (c : ℕ) (ds : List ℕ) → c < 48 → allDigits ds ≡ true → Lacks c ds
+digits-lack c [] h e = tt
+digits-lack c (d ∷ ds) h e = let p = tells-allDigits .parts d ds e in ((λ same. omega (arith, p .0 .0)), digits-lack c ds h (p .1))
 
 others-ok : (r : Result ℕ FieldFault) (s : Result (List ℕ) FieldFault) (n : ℕ) (ns : List ℕ) → before-others r s ≡ Ok (n ∷ ns) → (r ≡ Ok n) × (s ≡ Ok ns)
 others-ok (Ok m) (Ok ms) n ns h = (cc, cc)

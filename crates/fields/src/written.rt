@@ -6,7 +6,7 @@ use std::fmt;
 
 // Numbers that are written with a comma before each.
 #[derive(Clone, Copy)]
-pub struct AfterCommas<'a>(pub &'a [u16]);
+pub struct AfterCommas<'a>(pub &'a [u32]);
 
 pub impl fmt::Display for AfterCommas<'_> as AfterCommasDisplay {
     ghost shown = { λ x. Some (each-after-comma (x .0 .now)) };

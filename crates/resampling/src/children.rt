@@ -9,18 +9,18 @@ ghost use Rattle.resampling.specs.Children.{children-of-each};
 use crate::total::MOST_PARTICLES;
 use refusals::Refusal;
 
-fn are_below(parents: &[u16], limit: usize) -> bool
+fn are_below(parents: &[u32], limit: usize) -> bool
     ensures { λ r. ⌜ r ≡ all-below limit (now (parents .entry)) ⌝ }
 {
     for parent in parents {
-        if usize::from(*parent) >= limit {
+        if *parent as usize >= limit {
             return false;
         }
     }
     true
 }
 
-fn clear(counts: &mut [u16], n: usize)
+fn clear(counts: &mut [u32], n: usize)
     requires { ⌜ n ≤ length (now counts) ⌝ }
     ensures { λ _. ⌜ now (counts .exit) ≡ replicate n 0 ++ drop n (now (counts .entry)) ⌝ }
 {
@@ -29,7 +29,7 @@ fn clear(counts: &mut [u16], n: usize)
     }
 }
 
-fn tally(parents: &[u16], counts: &mut [u16])
+fn tally(parents: &[u32], counts: &mut [u32])
     requires few { ⌜ length (now parents) ≤ 256 ⌝ }
     requires room { ⌜ length (now parents) ≤ length (now counts) ⌝ }
     requires known { ⌜ all-below (length (now parents)) (now parents) ≡ true ⌝ }
@@ -37,13 +37,13 @@ fn tally(parents: &[u16], counts: &mut [u16])
     ensures { λ _. ⌜ now (counts .exit) ≡ children-of-each (now (parents .entry)) ++ drop (length (now (parents .entry))) (now (counts .entry)) ⌝ }
 {
     for parent in parents {
-        let i = usize::from(*parent);
+        let i = *parent as usize;
         counts[i] += 1;
     }
 }
 
 // Writes how many of the parents each particle is into the front of the row, and answers how many particles there are.
-pub fn write_children(parents: &[u16], row: &mut [u16]) -> Result<usize, Refusal>
+pub fn write_children(parents: &[u32], row: &mut [u32]) -> Result<usize, Refusal>
     ensures reply { λ r. ⌜ r ≡ children-reply (now (parents .entry)) (length (now (row .entry))) ⌝ }
     ensures row { λ r. ⌜ now (row .exit) ≡ row-after r (children-of-each (now (parents .entry))) (now (row .entry)) ⌝ }
 {

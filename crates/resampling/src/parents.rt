@@ -12,7 +12,7 @@ use crate::total::total_weight;
 use refusals::Refusal;
 
 // One pass over marks and particles: mark k and particle i go up in turn, and `end` is where the marks of i end.
-fn fill(weights: &[u16], whole: u32, first: u32, row: &mut [u16])
+fn fill(weights: &[u16], whole: u32, first: u32, row: &mut [u32])
     requires few { ⌜ length (now weights) ≤ 256 ⌝ }
     requires room { ⌜ length (now weights) ≤ length (now row) ⌝ }
     requires sum { ⌜ whole ≡ total (now weights) ⌝ }
@@ -27,7 +27,7 @@ fn fill(weights: &[u16], whole: u32, first: u32, row: &mut [u16])
     let mut k = 0;
     while k < n {
         if mark < n as u64 * sum {
-            row[k] = i as u16;
+            row[k] = i as u32;
             k += 1;
             mark += u64::from(whole);
         } else {
@@ -38,7 +38,7 @@ fn fill(weights: &[u16], whole: u32, first: u32, row: &mut [u16])
 }
 
 // Writes the parent of each new particle into the front of the row, and answers how many there are.
-pub fn write_parents(weights: &[u16], drawn: u32, row: &mut [u16]) -> Result<usize, Refusal>
+pub fn write_parents(weights: &[u16], drawn: u32, row: &mut [u32]) -> Result<usize, Refusal>
     ensures reply { λ r. ⌜ r ≡ parents-reply (now (weights .entry)) (length (now (row .entry))) ⌝ }
     ensures row { λ r. ⌜ now (row .exit) ≡ row-after r (parents (now (weights .entry)) (offset drawn (total (now (weights .entry))))) (now (row .entry)) ⌝ }
     ensures systematic { λ r. ⌜ made r (λ n. Systematic (now (weights .entry)) (offset drawn (total (now (weights .entry)))) (take n (now (row .exit)))) ⌝ }

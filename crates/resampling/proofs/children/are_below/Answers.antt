@@ -3,8 +3,8 @@ use Rattle.std.proofs.shelf.Lists.{at-drop-more, at-drop-all}
 use Rattle.resampling.specs.Calls.{all-below}
 use Rattle.resampling.proofs.children.are_below.Needs as need
 
-pub returns-then-from-limit : need.returns-then-from-limit
-returns-then-from-limit c = search (needs, at-drop-more (all-below (c .args .limit)))
+pub returns-then-parent-limit : need.returns-then-parent-limit
+returns-then-parent-limit c = search (needs, at-drop-more (all-below (c .args .limit)))
 
 pub loop-parent-again : need.loop-parent-again
 loop-parent-again c = search (needs, at-drop-more (all-below (c .args .limit)))

@@ -15,29 +15,30 @@ pub loop-parent-holds : need.loop-parent-holds
 loop-parent-holds c = (λ i h. tally-none (c .args .counts .now) (length (c .args .parents .now)) (c .pre .cleared) i h, refl)
 
 -- the parent is a particle
-known : (ps : List ℕ) (k i : ℕ) → all-below (length ps) ps ≡ true → k < length ps → i ≡ getD ps k 0 → i < length ps
-known ps k i e h q = omega (arith, below-at (length ps) ps k e h)
+known : (ps : List ℕ) (k : ℕ) → all-below (length ps) ps ≡ true → k < length ps → getD ps k 0 < length ps
+known ps k e h = below-at (length ps) ps k e h
 
 pub index-counts-i : need.index-counts-i
-index-counts-i c = omega (arith, known (c .args .parents .now) (c .loop-parent .parent-index) (c .from-i .result) (c .pre .known) (c .loop-parent-test .taken) (c .from-i .ensures))
+index-counts-i c = omega (arith, known (c .args .parents .now) (c .loop-parent .parent-index) (c .pre .known) (c .loop-parent-test .taken))
 
 pub index-counts-i-in-loop-parent : need.index-counts-i-in-loop-parent
-index-counts-i-in-loop-parent c = omega (arith, known (c .args .parents .now) (c .loop-parent .parent-index) (c .from-i .result) (c .pre .known) (c .loop-parent-test .taken) (c .from-i .ensures))
+index-counts-i-in-loop-parent c = omega (arith, known (c .args .parents .now) (c .loop-parent .parent-index) (c .pre .known) (c .loop-parent-test .taken))
 
 pub add-counts : need.add-counts
 add-counts c =
     let ps = c .args .parents .now in
-    let inside = known ps (c .loop-parent .parent-index) (c .from-i .result) (c .pre .known) (c .loop-parent-test .taken) (c .from-i .ensures) in
-    let so-far = c .loop-parent .inv .0 (c .from-i .result) inside in
-    let few = children-few ps (c .loop-parent .parent-index) (c .from-i .result) (omega arith) in
+    let p = getD ps (c .loop-parent .parent-index) 0 in
+    let so-far = c .loop-parent .inv .0 p (known ps (c .loop-parent .parent-index) (c .pre .known) (c .loop-parent-test .taken)) in
+    let few = children-few ps (c .loop-parent .parent-index) p (omega arith) in
     search needs
 
 pub loop-parent-again : need.loop-parent-again
 loop-parent-again c =
     let ps = c .args .parents .now in
-    let inside : c .from-i .result < length ps = known ps (c .loop-parent .parent-index) (c .from-i .result) (c .pre .known) (c .loop-parent-test .taken) (c .from-i .ensures) in (
-      tally-more ps (c .loop-parent .parent-index) (c .loop-parent-test .taken) (c .loop-parent .counts) (length ps) (c .from-i .result) _ (c .from-i .ensures) (omega arith) refl inside (c .loop-parent .inv .0),
-      drop-set-lt (length ps) (c .loop-parent .counts) (c .from-i .result) _ inside ∙ c .loop-parent .inv .1,
+    let p = getD ps (c .loop-parent .parent-index) 0 in
+    let inside : p < length ps = known ps (c .loop-parent .parent-index) (c .pre .known) (c .loop-parent-test .taken) in (
+      tally-more ps (c .loop-parent .parent-index) (c .loop-parent-test .taken) (c .loop-parent .counts) (length ps) p _ refl (omega arith) refl inside (c .loop-parent .inv .0),
+      drop-set-lt (length ps) (c .loop-parent .counts) p _ inside ∙ c .loop-parent .inv .1,
     )
 
 pub returns : need.returns
