@@ -1,0 +1,5 @@
+pub mod Faults
+pub mod Lines
+pub mod Reports
+pub mod Runs
+pub mod Forms
