@@ -17,6 +17,27 @@ use fields::number::read_field;
 
 pub const LONGEST_LINE: usize = 100;
 
+// The limits of the numbers in a line.
+const ROW_LIMIT: u32 = 31;
+
+const BITS_LIMIT: u32 = 4294967295;
+
+const SEED_LIMIT: u32 = 4294967295;
+
+const RECORD_LIMIT: u32 = 4294967295;
+
+const COUNT_LIMIT: u32 = 65535;
+
+const COMMAND_LIMIT: u32 = 255;
+
+const READING_LIMIT: u32 = 255;
+
+const LAG_LIMIT: u32 = 65535;
+
+const CODE_LIMIT: u32 = 65535;
+
+const PARTICLE_LIMIT: u32 = 65535;
+
 // The letter of a line that this program knows.
 fn known_letter(program: Program, letter: char) -> Option<Letter>
     ensures { λ r. ⌜ r ≡ letter-of program letter ⌝ }
@@ -101,12 +122,12 @@ fn read_share(arguments: Arguments<&[u8]>) -> Result<Line, LineFault>
 {
     match arguments {
         Arguments::One(field) => {
-            let code = read_field(field, 2, 65535)? as u16;
+            let code = read_field(field, 2, CODE_LIMIT)? as u16;
             Ok(Line::Share { lag: None, code })
         }
         Arguments::Two(first, second) => {
-            let lag = read_field(first, 2, 65535)? as u16;
-            let code = read_field(second, 3, 65535)? as u16;
+            let lag = read_field(first, 2, LAG_LIMIT)? as u16;
+            let code = read_field(second, 3, CODE_LIMIT)? as u16;
             Ok(Line::Share {
                 lag: Some(lag),
                 code,
@@ -121,26 +142,26 @@ fn read_by(letter: Letter, arguments: Arguments<&[u8]>) -> Result<Line, LineFaul
 {
     match letter {
         Letter::Map => {
-            let (row, bits) = read_two(arguments, 31, u32::MAX)?;
+            let (row, bits) = read_two(arguments, ROW_LIMIT, BITS_LIMIT)?;
             Ok(Line::Map {
                 row: row as u8,
                 bits,
             })
         }
         Letter::Seed => Ok(Line::Seed {
-            value: read_one(arguments, u32::MAX)?,
+            value: read_one(arguments, SEED_LIMIT)?,
         }),
         Letter::Record => Ok(Line::Record {
-            value: read_one(arguments, u32::MAX)?,
+            value: read_one(arguments, RECORD_LIMIT)?,
         }),
         Letter::Start => Ok(Line::Start {
-            count: read_one(arguments, 65535)? as u16,
+            count: read_one(arguments, COUNT_LIMIT)? as u16,
         }),
         Letter::Advance => Ok(Line::Advance {
-            command: read_one(arguments, 255)? as u8,
+            command: read_one(arguments, COMMAND_LIMIT)? as u8,
         }),
         Letter::Weigh => Ok(Line::Weigh {
-            reading: read_one(arguments, 255)? as u8,
+            reading: read_one(arguments, READING_LIMIT)? as u8,
         }),
         Letter::Resample => {
             read_none(arguments)?;
@@ -148,7 +169,7 @@ fn read_by(letter: Letter, arguments: Arguments<&[u8]>) -> Result<Line, LineFaul
         }
         Letter::Share => read_share(arguments),
         Letter::Path => Ok(Line::Path {
-            particle: read_one(arguments, 65535)? as u16,
+            particle: read_one(arguments, PARTICLE_LIMIT)? as u16,
         }),
         Letter::Finish => {
             read_none(arguments)?;
