@@ -15,9 +15,13 @@ pub record Recording : Type 0 where
   pub ever : ℕ
   pub row : List ℕ
 
+-- what the source holds if the next number to come stands at place p
+abbrev pub recording-from : ℕ → Recorded → Recording
+recording-from p s = record { ever = s .count; row = drop p (take (s .count) (s .numbers)) }
+
 -- what the source holds
 abbrev pub recording : Recorded → Recording
-recording s = record { ever = s .count; row = drop (s .place) (take (s .count) (s .numbers)) }
+recording s = recording-from (s .place) s
 
 -- before any number was recorded
 abbrev pub nothing-recorded : Recording
@@ -28,8 +32,12 @@ abbrev pub record-reply : Recording → Result Unit Refusal
 record-reply t = cond (ltb (t .ever) 512) (Ok tt) (Err NoRoom)
 
 -- one number more, after those still to come
+abbrev pub pushed : ℕ → Recording → Recording
+pushed v t = record { ever = t .ever + 1; row = t .row ++ (v ∷ []) }
+
+-- what the source holds after that reply
 abbrev pub with-number : ℕ → Recording → Recording
-with-number v t = cond (ltb (t .ever) 512) (record { ever = t .ever + 1; row = t .row ++ (v ∷ []) }) t
+with-number v t = cond (ltb (t .ever) 512) (pushed v t) t
 
 -- one number fewer to come, if there is one
 abbrev pub less-first : Recording → Recording

@@ -36,10 +36,10 @@ impl Generator {
         ensures number { λ r. ⌜ r ≡ step (now (self .entry) .value) ⌝ }
         ensures held { λ r. ⌜ now (self .exit) .value ≡ r ⌝ }
     {
-        self.value = self.value
-            .wrapping_mul(Self::FACTOR)
-            .wrapping_add(Self::ADDEND);
-        self.value
+        let product = self.value.wrapping_mul(Self::FACTOR);
+        let number = product.wrapping_add(Self::ADDEND);
+        *self = Self::from_value(number);
+        number
     }
 }
 

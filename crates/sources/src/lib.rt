@@ -10,6 +10,7 @@ pub use generator::GeneratorSource;
 pub use recorded::Recorded;
 pub use recorded::recording::RecordedSource;
 pub use restore::Restore;
+pub use restore::peek;
 pub use source::Source;
 
 #[cfg(test)]

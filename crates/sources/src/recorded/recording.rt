@@ -1,9 +1,11 @@
 // Recording numbers, and drawing those that were recorded.
 ghost use mathlib.Core.Path.{_≡_};
+ghost use Prim.Native.Nat.{_+_, _<_};
 ghost use denote.Ref.{now};
+ghost use lib.ListN.{length, getD};
 ghost use Rattle.std.specs.declared.result.Result.the-variants.{Err};
 ghost use Rattle.refusals.specs.declared.Refusal.the-variants.{NoRoom};
-ghost use Rattle.sources.specs.Recordings.{recording, nothing-recorded, record-reply, with-number, less-first};
+ghost use Rattle.sources.specs.Recordings.{recording, recording-from, nothing-recorded, record-reply, with-number, pushed, less-first};
 ghost use Rattle.sources.specs.Rows.{recorded-supply};
 ghost use Rattle.sources.specs.Supplies.{drawn, left};
 use crate::recorded::Recorded;
@@ -24,26 +26,50 @@ impl Recorded {
         }
     }
 
+    // How many numbers were ever recorded.
+    pub fn recorded_count(&self) -> usize
+        ensures { λ r. ⌜ r ≡ recording (now (self .entry)) .ever ⌝ }
+    {
+        self.count
+    }
+
     // One number more, after those still to come.
     pub fn record_number(&mut self, v: u32) -> Result<(), Refusal>
         ensures reply { λ r. ⌜ r ≡ record-reply (recording (now (self .entry))) ⌝ }
         ensures holds { λ _. ⌜ recording (now (self .exit)) ≡ with-number v (recording (now (self .entry))) ⌝ }
         ensures refused { λ r. ⌜ (r ≡ Err NoRoom → now (self .exit) ≡ now (self .entry)) ⌝ }
     {
-        let at = self.count;
-        if at >= Self::ROOM {
+        if self.count >= Self::ROOM {
             return Err(Refusal::NoRoom);
         }
-        self.numbers[at] = v;
-        self.count = at + 1;
+        self.push(v);
         Ok(())
     }
 
-    // How many numbers were ever recorded.
-    pub fn recorded_count(&self) -> usize
-        ensures { λ r. ⌜ r ≡ recording (now (self .entry)) .ever ⌝ }
+    fn push(&mut self, v: u32)
+        requires { ⌜ now self .count < 512 ⌝ }
+        ensures { λ _. ⌜ recording (now (self .exit)) ≡ pushed v (recording (now (self .entry))) ⌝ }
     {
-        self.count
+        let at = self.count;
+        self.numbers[at] = v;
+        self.count = at + 1;
+    }
+
+    // How many numbers are still to come.
+    fn to_come(&self) -> usize
+        ensures { λ r. ⌜ r ≡ length (recording (now (self .entry)) .row) ⌝ }
+    {
+        self.count - self.place
+    }
+
+    fn take_next(&mut self) -> u32
+        requires { ⌜ now self .place < now self .count ⌝ }
+        ensures number { λ r. ⌜ r ≡ getD (now (self .entry) .numbers) (now (self .entry) .place) 0 ⌝ }
+        ensures holds { λ _. ⌜ recording (now (self .exit)) ≡ recording-from (now (self .entry) .place + 1) (now (self .entry)) ⌝ }
+    {
+        let number = self.numbers[self.place];
+        self.place += 1;
+        number
     }
 }
 
@@ -51,7 +77,7 @@ pub impl Source for Recorded as RecordedSource {
     ghost supply = { λ s. recorded-supply (recording s .row) };
 
     fn can_draw(&self, n: u32) -> bool {
-        n as usize <= self.count - self.place
+        n as usize <= self.to_come()
     }
 
     fn draw(&mut self) -> Result<u32, Refusal>
@@ -62,8 +88,6 @@ pub impl Source for Recorded as RecordedSource {
         if self.place >= self.count {
             return Err(Refusal::SourceDry);
         }
-        let number = self.numbers[self.place];
-        self.place += 1;
-        Ok(number)
+        Ok(self.take_next())
     }
 }

@@ -1,10 +1,11 @@
 use mathlib.Core.Path.{_≡_, ap, sym, _∙_}
-use Prim.Native.Nat.{_<_}
+use Prim.Native.Nat.{_+_, _<_}
 use native.Mathlib.Omega.{arith}
 use native.Mathlib.Nat.{add-zero}
 use lib.ListN.{length, take, drop, getD, length-drop, length-take}
 use lib.Seq.{drop-drop, getD-drop, getD-take}
 use Rattle.std.specs.declared.result.Result.the-variants.{Ok}
+use Rattle.sources.specs.Recordings.{recording, less-first}
 use Rattle.sources.specs.Rows.{recorded-supply}
 use Rattle.sources.proofs.Recordings.{same-row, none-less}
 use Rattle.sources.proofs.Rows.{row-drawn, row-left, none-drawn, none-left}
@@ -22,10 +23,11 @@ returns c =
     let s = c .args .self .now in
     let ys = take (s .count) (s .numbers) in
     let xs = drop (s .place) ys in
-    let e : 0 < length xs = simp (length-drop, length-take) (omega arith) in
+    let some : 0 < length xs = simp (length-drop, length-take) (omega arith) in
     let first : getD xs 0 0 ≡ getD (s .numbers) (s .place) 0 = getD-drop (s .place) ys 0 0 ∙ ap (λ n. getD ys n 0) (add-zero (s .place)) ∙ getD-take (s .count) (s .numbers) (s .place) 0 (c .if-self .left) in
+    let less : recording (c .take-next .last .self) ≡ less-first (recording s) = c .take-next .ensures .holds ∙ same-row (s .count) _ _ (sym (drop-drop 1 (s .place) ys)) in
     record {
-      answer = sym (row-drawn xs e ∙ ap Ok first);
-      rest = sym (row-left xs e ∙ ap recorded-supply (drop-drop 1 (s .place) ys));
-      holds = same-row (s .count) _ _ (sym (drop-drop 1 (s .place) ys));
+      answer = ap Ok (c .take-next .ensures .number ∙ sym first) ∙ sym (row-drawn xs some);
+      rest = ap (λ t. recorded-supply (t .row)) less ∙ sym (row-left xs some);
+      holds = less;
     }
