@@ -12,7 +12,7 @@ pub record Supply : Type 0 where
   pub to-come : ℕ → ℕ
   pub can : ℕ → Bool
 
--- no numbers can always be drawn, whoever can draw more can draw fewer, and each number has 32 bits
+-- 0 numbers can always be drawn; where n + 1 can be drawn, n can; each number has 32 bits
 pub record Lawful (s : Supply) : Type 0 where
   pub none : s .can 0 ≡ true
   pub fewer : (n : ℕ) → s .can (n + 1) ≡ true → s .can n ≡ true

@@ -6,7 +6,7 @@ ghost use Rattle.sources.specs.Supplies.{drawn, left};
 use crate::source::Source;
 use refusals::Refusal;
 
-// A linear congruential generator modulo 2^32, which never runs out.
+// A linear congruential generator, which never runs out: a draw takes its value v to 1,664,525 × v + 1,013,904,223 modulo 2^32, and answers that.
 #[derive(Clone, Copy, PartialEq, Eq, Debug)]
 pub struct Generator {
     value: u32,
