@@ -1,0 +1,4 @@
+pub mod Draws
+pub mod Steps
+pub mod Rows
+pub mod Recordings

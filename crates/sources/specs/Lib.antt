@@ -1,0 +1,5 @@
+pub mod Supplies
+pub mod Generators
+pub mod Rows
+pub mod Recordings
+pub mod Examples
