@@ -3,6 +3,7 @@ pub mod Poses
 pub mod LiftStates
 pub mod Meanings
 pub mod Grids
+pub mod Readings
 pub mod Lifts
 pub mod Layers
 pub mod Examples

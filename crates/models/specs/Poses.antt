@@ -20,17 +20,11 @@ heading-of n = cond (eqb n 0) North (cond (eqb n 1) East (cond (eqb n 2) South W
 
 -- the heading after a turn to the right
 abbrev pub right : Heading → Heading
-right North = East
-right East = South
-right South = West
-right West = North
+right h = heading-of ((heading-number h + 1) % 4)
 
 -- the heading after a turn to the left
 abbrev pub left : Heading → Heading
-left North = West
-left East = North
-left South = East
-left West = South
+left h = heading-of ((heading-number h + 3) % 4)
 
 abbrev pub pose : ℕ → ℕ → Heading → Pose
 pose x y h = record { x = x; y = y; heading = h }
