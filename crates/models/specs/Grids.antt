@@ -67,6 +67,7 @@ overrun-forward rows p = valueOr (reach rows p 2) (single-forward rows p)
 abbrev pub overruns : ℕ → Bool
 overruns r = eqb (r / 2 ^ 29) 7
 
+-- a forward, single or overrun by its number
 abbrev pub forward : List ℕ → Pose → ℕ → Pose
 forward rows p r = cond (overruns r) (overrun-forward rows p) (single-forward rows p)
 
@@ -90,9 +91,11 @@ free-at rows p d = isSome (reach rows p d)
 unfoldable pub expected-reading : List ℕ → Pose → ℕ
 expected-reading rows p = leading (free-at rows p) (counting 1 31)
 
+-- how far two readings are apart
 abbrev pub distance : ℕ → ℕ → ℕ
 distance a b = (a - b) + (b - a)
 
+-- the score of a reading so far from the expected one
 abbrev pub by-distance : ℕ → ℕ
 by-distance d = cond (eqb d 0) 1000 (cond (eqb d 1) 400 (cond (eqb d 2) 100 (cond (eqb d 3) 20 1)))
 
@@ -100,6 +103,7 @@ by-distance d = cond (eqb d 0) 1000 (cond (eqb d 1) 400 (cond (eqb d 2) 100 (con
 abbrev pub grid-score : List ℕ → Pose → ℕ → ℕ
 grid-score rows p q = cond (wall rows (p .x) (p .y)) 0 (by-distance (distance (expected-reading rows p) q))
 
+-- the meaning of the grid with these rows
 abbrev pub grid-meaning : List ℕ → Meaning Pose
 grid-meaning rows = record {
   commands = λ c. ltb c 4;

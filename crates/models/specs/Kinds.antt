@@ -5,10 +5,12 @@ use Prim.Native.Nat.{ℕ, _<_, _^_}
 use Rattle.std.specs.declared.option.Option.{Option}
 use Rattle.std.specs.declared.option.Option.the-variants.{Some, None}
 
+-- a kind of state
 pub record Kind (S : Type 0) : Type 0 where
   -- the value is a state
   pub is : S → Bool
 
+-- a kind of state with codes
 pub record Coding (S : Type 0) : Type 0 where
   -- the value is a state
   pub is : S → Bool

@@ -8,6 +8,7 @@ use Rattle.models.specs.Meanings.{Meaning}
 abbrev pub slip-move : {S : Type 0} → ℕ → Meaning S → S → ℕ → ℕ → S
 slip-move p m s c r = cond (ltb (r / 2 ^ 24) p) s (m .move s c (256 * r % 2 ^ 32))
 
+-- a model whose moves slip
 abbrev pub slipping : {S : Type 0} → ℕ → Meaning S → Meaning S
 slipping p m = record {
   commands = m .commands;
@@ -17,7 +18,7 @@ slipping p m = record {
   score = m .score;
 }
 
--- no score is below f
+-- a model whose scores are at least f
 abbrev pub floored : {S : Type 0} → ℕ → Meaning S → Meaning S
 floored f m = record {
   commands = m .commands;

@@ -45,12 +45,14 @@ lift-move s c r =
 abbrev pub of-three : ℕ → ℕ → ℕ → ℕ → ℕ
 of-three a b c q = cond (eqb q 0) a (cond (eqb q 1) b c)
 
+-- the score of a reading in a mode
 abbrev pub lift-score : Mode → ℕ → ℕ
 lift-score Down = of-three 90 9 1
 lift-score Rising = of-three 1 19 80
 lift-score Up = of-three 80 19 1
 lift-score Lowering = of-three 9 81 10
 
+-- the meaning of the lift
 abbrev pub lift-meaning : Meaning LiftState
 lift-meaning = record {
   commands = λ c. ltb c 3;

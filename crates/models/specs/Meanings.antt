@@ -8,6 +8,7 @@ use Rattle.refusals.specs.declared.Refusal.{Refusal}
 use Rattle.refusals.specs.declared.Refusal.the-variants.{Unknown}
 use Rattle.models.specs.Kinds.{Kind}
 
+-- a model over states S
 pub record Meaning (S : Type 0) : Type 0 where
   -- the commands and the readings that the model knows
   pub commands : ℕ → Bool
@@ -19,6 +20,7 @@ pub record Meaning (S : Type 0) : Type 0 where
   -- the likelihood of a reading in a state, up to a common factor
   pub score : S → ℕ → ℕ
 
+-- a model keeps to the states of its kind, and to the range of scores
 pub record Lawful {S : Type 0} (k : Kind S) (m : Meaning S) : Type 0 where
   -- births are states
   pub births : (r : ℕ) → r < 2 ^ 32 → k .is (m .birth r) ≡ true

@@ -9,12 +9,14 @@ use Rattle.models.specs.declared.pose.Heading.{Heading}
 use Rattle.models.specs.declared.pose.Heading.the-variants.{North, East, South, West}
 use Rattle.models.specs.declared.pose.Pose.{Pose}
 
+-- the number that a code has for a heading
 abbrev pub heading-number : Heading → ℕ
 heading-number North = 0
 heading-number East = 1
 heading-number South = 2
 heading-number West = 3
 
+-- the heading that has the number
 abbrev pub heading-of : ℕ → Heading
 heading-of n = cond (eqb n 0) North (cond (eqb n 1) East (cond (eqb n 2) South West))
 
@@ -26,6 +28,7 @@ right h = heading-of ((heading-number h + 1) % 4)
 abbrev pub left : Heading → Heading
 left h = heading-of ((heading-number h + 3) % 4)
 
+-- the pose at x and y with a heading
 abbrev pub pose : ℕ → ℕ → Heading → Pose
 pose x y h = record { x = x; y = y; heading = h }
 
@@ -33,9 +36,11 @@ pose x y h = record { x = x; y = y; heading = h }
 abbrev pub on-grid : Pose → Bool
 on-grid p = ltb (p .x) 32 && ltb (p .y) 32
 
+-- which poses are states
 abbrev pub pose-kind : Kind Pose
 pose-kind = record { is = on-grid }
 
+-- the codes of poses
 abbrev pub pose-coding : Coding Pose
 pose-coding = record {
   is = on-grid;

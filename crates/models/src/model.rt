@@ -12,9 +12,11 @@ pub trait Model {
 
     law lawful: { (m : Self) → Lawful (State·State .kind) (meaning m) };
 
+    // The command is one that moves can be asked for.
     fn knows_command(&self, command: u8) -> bool
         ensures { λ r. ⌜ r ≡ meaning (now (self .entry)) .commands command ⌝ };
 
+    // The reading is one that can be scored.
     fn knows_reading(&self, reading: u8) -> bool
         ensures { λ r. ⌜ r ≡ meaning (now (self .entry)) .readings reading ⌝ };
 

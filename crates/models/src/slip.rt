@@ -30,7 +30,7 @@ pub impl<M: Model> Model for Slip<M> as SlipModel {
     }
 
     fn advance(&self, state: M::State, command: u8, number: u32) -> Result<M::State, Refusal> {
-        if !state.is_state() || !self.below.knows_command(command) {
+        if !state.is_state() || !self.knows_command(command) {
             return Err(Refusal::Unknown);
         }
         if number >> 24 < u32::from(self.chance) {

@@ -6,6 +6,7 @@ ghost use Rattle.models.specs.Kinds.{Kind, Coding, Exact, code-reply};
 pub trait State: Copy {
     ghost kind: { Kind Self };
 
+    // The value is a state.
     fn is_state(self) -> bool
         ensures { λ r. ⌜ r ≡ kind .is self ⌝ };
 }

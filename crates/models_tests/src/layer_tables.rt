@@ -1,4 +1,6 @@
 // Tables of the layers, and of layers over layers.
+use crate::shown;
+use crate::shown::Shown;
 use crate::shown::ShownDisplay;
 use crate::shown::birth_code;
 use crate::shown::code_after;
@@ -12,6 +14,8 @@ use models::lift::LiftModel;
 use models::lift_state::LiftStateCoded;
 use models::lift_state::LiftStateState;
 use models::model::Model;
+use models::pose::Heading;
+use models::pose::Pose;
 use models::pose::PoseCoded;
 use models::pose::PoseState;
 use models::slip::Slip;
@@ -114,9 +118,36 @@ fn print_floors(rt: &LibcRuntime) -> Result<(), AnyError> {
     Ok(())
 }
 
+// A value that is no state is refused also where the slip would leave it.
+fn print_no_state(rt: &LibcRuntime) -> Result<(), AnyError> {
+    let model = Floor {
+        least: 1,
+        below: Slip {
+            chance: 255,
+            below: Grid::empty(),
+        },
+    };
+    let p = Pose {
+        x: 32,
+        y: 0,
+        heading: Heading::East,
+    };
+    let moved = match model.advance(p, 0, 0) {
+        Ok(next) => shown::pose(next),
+        Err(refusal) => shown::refused(refusal),
+    };
+    let scored = match model.score(p, 0) {
+        Ok(score) => Shown::Number(u32::from(score)),
+        Err(refusal) => shown::refused(refusal),
+    };
+    println!(rt, "no state: {moved} {scored}")?;
+    Ok(())
+}
+
 pub fn print_all(rt: &LibcRuntime) -> Result<(), AnyError> {
     print_slips(rt)?;
     print_slips_twice(rt)?;
     print_slips_of_lift(rt)?;
-    print_floors(rt)
+    print_floors(rt)?;
+    print_no_state(rt)
 }
