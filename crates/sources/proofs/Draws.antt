@@ -5,7 +5,8 @@ use Prim.Native.Nat.{ℕ, zero, suc, _+_, _-_, _<_, _≤_}
 use native.Mathlib.Nat.{zero-add}
 use native.Mathlib.Omega.{arith}
 use Rattle.std.proofs.shelf.Tests.{cond-true}
-use Rattle.std.specs.declared.result.Result.the-variants.{Ok}
+use Rattle.std.specs.declared.result.Result.the-variants.{Ok, Err}
+use Rattle.refusals.specs.declared.Refusal.{Refusal}
 use Rattle.sources.specs.Supplies.{Supply, Lawful, after, drawn, left}
 
 can-down : (s : Supply) → Lawful s → (d m n : ℕ) → n ≡ m + d → s .can n ≡ true → s .can m ≡ true
@@ -36,3 +37,7 @@ draw-at s l i n h c t e =
       ap drawn e ∙ cond-true (s .can (1 + i)) _ _ k ∙ ap (λ m. Ok (s .to-come m)) (zero-add i),
       ap left e ∙ cond-true (s .can (1 + i)) _ _ k ∙ after-after s 1 i,
     )
+
+-- a draw that is granted is not refused
+pub not-refused : (t : Supply) (x : ℕ) (e : Refusal) → drawn t ≡ Ok x → Err e ≡ drawn t → ⊥
+not-refused t x e p q = let z : _≡_ {A = ℕ} 0 1 = cc in omega arith
