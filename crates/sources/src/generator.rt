@@ -1,5 +1,6 @@
 // The generator.
 ghost use mathlib.Core.Path.{_≡_};
+ghost use Prim.Native.Nat.{ℕ};
 ghost use denote.Ref.{now};
 ghost use Rattle.sources.specs.Generators.{step, generator-supply};
 ghost use Rattle.sources.specs.Supplies.{drawn, left};
@@ -46,6 +47,8 @@ impl Generator {
 pub impl Source for Generator as GeneratorSource {
     ghost supply = { λ g. generator-supply (g .value) };
 
+    ghost kept = { λ _. 0 };
+
     fn can_draw(&self, n: u32) -> bool {
         true
     }
@@ -53,6 +56,7 @@ pub impl Source for Generator as GeneratorSource {
     fn draw(&mut self) -> Result<u32, Refusal>
         ensures answer { λ r. ⌜ r ≡ drawn (generator-supply (now (self .entry) .value)) ⌝ }
         ensures rest { λ _. ⌜ generator-supply (now (self .exit) .value) ≡ left (generator-supply (now (self .entry) .value)) ⌝ }
+        ensures same { λ _. ⌜ _≡_ {A = ℕ} 0 0 ⌝ }
         ensures held { λ _. ⌜ now (self .exit) .value ≡ step (now (self .entry) .value) ⌝ }
     {
         Ok(self.next_number())

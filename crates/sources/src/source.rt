@@ -1,11 +1,15 @@
 // What gives numbers from 0 to 2^32 - 1.
 ghost use mathlib.Core.Path.{_≡_};
+ghost use Prim.Native.Nat.{ℕ};
 ghost use Rattle.sources.specs.Supplies.{Supply, Lawful, drawn, left};
 use refusals::Refusal;
 
 // A source of numbers, with its supply for a meaning.
 pub trait Source {
     ghost supply: { Self → Supply };
+
+    // What no draw changes.
+    ghost kept: { Self → ℕ };
 
     law lawful: { (s : Self) → Lawful (supply s) };
 
@@ -16,5 +20,6 @@ pub trait Source {
     // The next number, which is then no more to come.
     fn draw(&mut self) -> Result<u32, Refusal>
         ensures answer { λ r. ⌜ r ≡ drawn (supply (now (self .entry))) ⌝ }
-        ensures rest { λ _. ⌜ supply (now (self .exit)) ≡ left (supply (now (self .entry))) ⌝ };
+        ensures rest { λ _. ⌜ supply (now (self .exit)) ≡ left (supply (now (self .entry))) ⌝ }
+        ensures same { λ _. ⌜ kept (now (self .exit)) ≡ kept (now (self .entry)) ⌝ };
 }

@@ -76,6 +76,8 @@ impl Recorded {
 pub impl Source for Recorded as RecordedSource {
     ghost supply = { λ s. recorded-supply (recording s .row) };
 
+    ghost kept = { λ s. recording s .ever };
+
     fn can_draw(&self, n: u32) -> bool {
         n as usize <= self.to_come()
     }
@@ -83,6 +85,7 @@ pub impl Source for Recorded as RecordedSource {
     fn draw(&mut self) -> Result<u32, Refusal>
         ensures answer { λ r. ⌜ r ≡ drawn (recorded-supply (recording (now (self .entry)) .row)) ⌝ }
         ensures rest { λ _. ⌜ recorded-supply (recording (now (self .exit)) .row) ≡ left (recorded-supply (recording (now (self .entry)) .row)) ⌝ }
+        ensures same { λ _. ⌜ recording (now (self .exit)) .ever ≡ recording (now (self .entry)) .ever ⌝ }
         ensures holds { λ _. ⌜ recording (now (self .exit)) ≡ less-first (recording (now (self .entry))) ⌝ }
     {
         if self.place >= self.count {

@@ -1,4 +1,4 @@
-use mathlib.Core.Path.{_≡_, ap, sym, _∙_}
+use mathlib.Core.Path.{_≡_, refl, ap, sym, _∙_}
 use Prim.Native.Nat.{_+_, _<_}
 use native.Mathlib.Omega.{arith}
 use native.Mathlib.Nat.{add-zero}
@@ -16,7 +16,7 @@ returns-then-self c =
     let s = c .args .self .now in
     let xs = drop (s .place) (take (s .count) (s .numbers)) in
     let e : length xs ≡ 0 = simp (length-drop, length-take) (omega arith) in
-    record { answer = sym (none-drawn xs e); rest = sym (none-left xs e); holds = none-less (s .count) xs e }
+    record { answer = sym (none-drawn xs e); rest = sym (none-left xs e); same = refl; holds = none-less (s .count) xs e }
 
 pub returns : need.returns
 returns c =
@@ -29,5 +29,6 @@ returns c =
     record {
       answer = ap Ok (c .take-next .ensures .number ∙ sym first) ∙ sym (row-drawn xs some);
       rest = ap (λ t. recorded-supply (t .row)) less ∙ sym (row-left xs some);
+      same = ap (λ t. t .ever) less;
       holds = less;
     }
