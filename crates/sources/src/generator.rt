@@ -47,7 +47,7 @@ impl Generator {
 pub impl Source for Generator as GeneratorSource {
     ghost supply = { λ g. generator-supply (g .value) };
 
-    ghost kept = { λ _. 0 };
+    ghost recorded = { λ _. 0 };
 
     fn can_draw(&self, n: u32) -> bool {
         true

@@ -8,8 +8,8 @@ use refusals::Refusal;
 pub trait Source {
     ghost supply: { Self → Supply };
 
-    // What no draw changes.
-    ghost kept: { Self → ℕ };
+    // How many numbers were ever recorded, which no draw changes; 0 where none are.
+    ghost recorded: { Self → ℕ };
 
     law lawful: { (s : Self) → Lawful (supply s) };
 
@@ -21,5 +21,5 @@ pub trait Source {
     fn draw(&mut self) -> Result<u32, Refusal>
         ensures answer { λ r. ⌜ r ≡ drawn (supply (now (self .entry))) ⌝ }
         ensures rest { λ _. ⌜ supply (now (self .exit)) ≡ left (supply (now (self .entry))) ⌝ }
-        ensures same { λ _. ⌜ kept (now (self .exit)) ≡ kept (now (self .entry)) ⌝ };
+        ensures same { λ _. ⌜ recorded (now (self .exit)) ≡ recorded (now (self .entry)) ⌝ };
 }

@@ -76,7 +76,7 @@ impl Recorded {
 pub impl Source for Recorded as RecordedSource {
     ghost supply = { λ s. recorded-supply (recording s .row) };
 
-    ghost kept = { λ s. recording s .ever };
+    ghost recorded = { λ s. recording s .ever };
 
     fn can_draw(&self, n: u32) -> bool {
         n as usize <= self.to_come()
