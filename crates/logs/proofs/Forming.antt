@@ -89,7 +89,7 @@ become-ok : {X : Type 0} (f : X → Line) (r : Result X LineFault) (l : Line) �
 become-ok f (Ok x) l h = (x, refl, cc)
 become-ok f (Err e) l h = apart l e h
 
-in-line-ok : (k limit : ℕ) (a : List ℕ) (n : ℕ) → in-line (read-field k limit a) ≡ Ok n → Numeral limit a n
+pub in-line-ok : (k limit : ℕ) (a : List ℕ) (n : ℕ) → in-line (read-field k limit a) ≡ Ok n → Numeral limit a n
 in-line-ok k limit a n h = numeral-from-read k limit a n (go (read-field k limit a) h)
   where
     go : (r : Result ℕ FieldFault) → in-line r ≡ Ok n → r ≡ Ok n
@@ -139,9 +139,6 @@ share-found p (a ∷ b ∷ []) l h =
     let x = become-ok (λ q. line.Share (Some (q .0)) (q .1)) (both (in-line (read-field 2 65535 a)) (in-line (read-field 3 65535 b))) l h in
     found p Share (a ∷ b ∷ []) l (line.Share (Some (x .0 .0)) (x .0 .1)) (x .2) ((69, (65535, x .0 .0) ∷ (65535, x .0 .1) ∷ []), refl, refl, pair-ok 65535 65535 a b (x .0 .0) (x .0 .1) (x .1))
 share-found p (a ∷ b ∷ c ∷ fs) l h = apart l FieldCount h
-
-not-had : {X : Type 0} (p : Program) (l : Letter) → _≡_ {A = Option Letter} None (Some l) → X
-not-had p l h = none-known l h
 
 by-letter : (p : Program) (k : Letter) (fs : List (List ℕ)) (l : Line) → Has p k → line-by k (arguments-of fs) ≡ Ok l → Found p k fs l
 unfolding Found Has code-of

@@ -2,3 +2,4 @@ pub mod Arguing
 pub mod Reading
 pub mod Running
 pub mod Forming
+pub mod Reasoning
