@@ -3,23 +3,20 @@ use mathlib.Core.Path.{_≡_, refl, sym, ap, _∙_}
 use mathlib.Core.Bool.{Bool, true, false, _&&_}
 use mathlib.Core.List.{List, [], _∷_, _++_}
 use Prim.Native.Nat.{ℕ, _+_, _<_, _≤_}
+use native.Mathlib.Nat.{zero-add}
 use native.Mathlib.Omega.{arith}
 use lib.ListN.{length, getD, take, drop, set}
-use Rattle.std.specs.declared.result.Result.{Result}
 use Rattle.std.specs.declared.result.Result.the-variants.{Ok, Err}
 use Rattle.std.proofs.shelf.Counted.{map-counting-more}
 use Rattle.std.proofs.shelf.Lists.{append-assoc, append-nil, take-all, take-more-set, drop-set-lt, at-drop-more, at-drop-all}
 use Rattle.std.proofs.shelf.Tests.{and-parts, and-from, and-left, cond-true}
-use Rattle.refusals.specs.declared.Refusal.{Refusal}
-use Rattle.refusals.specs.declared.Refusal.the-variants.{Unknown}
-use Rattle.sources.specs.Supplies.{Supply}
+use Rattle.refusals.specs.declared.Refusal.the-variants.{Unknown, SourceDry}
+use Rattle.sources.specs.Supplies.{Supply, Lawful, after, left}
+use Rattle.sources.proofs.Draws.{can-fewer, draw-at}
 use Rattle.models.specs.Kinds.{Kind}
 use Rattle.models.specs.Meanings.{Meaning, move-reply}
 use Rattle.draws.specs.Rows.{births, moves, moves-from, all-states}
-
--- what is granted is not refused
-pub not-both : {X Y : Type 0} {r : Result X Refusal} {x : X} {e : Refusal} → r ≡ Ok x → r ≡ Err e → Y
-not-both p q = let z : _≡_ {A = ℕ} 0 1 = cc in absurd (omega arith)
+use Rattle.draws.specs.Replies.{next-birth, next-move}
 
 module _ {S : Type 0} (m : Meaning S) (s : Supply) (xs : List S) (i : ℕ) (within : i < length xs) where
   -- the birth of the next number goes behind the births so far
@@ -67,6 +64,23 @@ module _ {S : Type 0} (k : Kind S) (xs : List S) (i : ℕ) (within : i < length 
       let both = and-parts (k .is x) (all-states k (drop (i + 1) xs)) (sym states-from ∙ h) in
       (both .0, ap (all-states k) (drop-set-lt (i + 1) xs i y (omega arith)) ∙ both .1)
 
--- a state under a known command moves
-pub moves-granted : {S : Type 0} (k : Kind S) (m : Meaning S) (x : S) (c r : ℕ) → k .is x ≡ true → m .commands c ≡ true → move-reply k m x c r ≡ Ok (m .move x c r)
-moves-granted k m x c r p q = cond-true (k .is x && m .commands c) (Ok (m .move x c r)) (Err Unknown) (and-from (k .is x) (m .commands c) p q)
+-- draw i of n that can be drawn
+module _ (s : Supply) (lawful : Lawful s) (i n : ℕ) (within : i < n) (can : s .can n ≡ true) (t : Supply) (here : t ≡ after i s) where
+  can-next : t .can 1 ≡ true
+  can-next = ap (λ (u : Supply). u .can 1) here ∙ can-fewer s lawful (1 + i) n (omega arith) can
+
+  is-next : t .to-come 0 ≡ s .to-come i
+  is-next = ap (λ (u : Supply). u .to-come 0) here ∙ ap (s .to-come) (zero-add i)
+
+  pub left-next : left t ≡ after (i + 1) s
+  left-next = draw-at s lawful i n within can t here .1
+
+  pub birth-next : {S : Type 0} (m : Meaning S) → next-birth m t ≡ Ok (m .birth (s .to-come i))
+  birth-next m = cond-true (t .can 1) (Ok (m .birth (t .to-come 0))) (Err SourceDry) can-next ∙ ap (λ (r : ℕ). Ok (m .birth r)) is-next
+
+  -- a state under a known command moves
+  pub move-next : {S : Type 0} (k : Kind S) (m : Meaning S) (c : ℕ) (x : S) → k .is x ≡ true → m .commands c ≡ true → next-move k m c t x ≡ Ok (m .move x c (s .to-come i))
+  move-next k m c x p q =
+      cond-true (t .can 1) (move-reply k m x c (t .to-come 0)) (Err SourceDry) can-next
+      ∙ cond-true (k .is x && m .commands c) (Ok (m .move x c (t .to-come 0))) (Err Unknown) (and-from (k .is x) (m .commands c) p q)
+      ∙ ap (λ (r : ℕ). Ok (m .move x c r)) is-next

@@ -10,8 +10,16 @@ use Rattle.refusals.specs.declared.Refusal.{Refusal}
 use Rattle.refusals.specs.declared.Refusal.the-variants.{OutOfRange, Unknown, SourceDry}
 use Rattle.sources.specs.Supplies.{Supply, after}
 use Rattle.models.specs.Kinds.{Kind}
-use Rattle.models.specs.Meanings.{Meaning}
+use Rattle.models.specs.Meanings.{Meaning, move-reply}
 use Rattle.draws.specs.Rows.{all-states}
+
+-- the birth of the next number
+abbrev pub next-birth : {S : Type 0} → Meaning S → Supply → Result S Refusal
+next-birth m s = cond (s .can 1) (Ok (m .birth (s .to-come 0))) (Err SourceDry)
+
+-- the move of a value under a command and the next number
+abbrev pub next-move : {S : Type 0} → Kind S → Meaning S → ℕ → Supply → S → Result S Refusal
+next-move k m c s x = cond (s .can 1) (move-reply k m x c (s .to-come 0)) (Err SourceDry)
 
 -- a row has 1 to 256 places
 abbrev pub in-range : ℕ → Bool

@@ -5,23 +5,32 @@ ghost use lib.ListN.{length};
 ghost use Rattle.std.specs.Results.{isOk};
 ghost use Rattle.std.specs.Vec.{made};
 ghost use Rattle.std.specs.declared.result.Result.the-variants.{Ok};
-ghost use Rattle.sources.specs.Supplies.{after};
+ghost use Rattle.sources.specs.Supplies.{after, left};
 ghost use Rattle.draws.specs.Rows.{births, all-states};
-ghost use Rattle.draws.specs.Replies.{births-reply, row-after, supply-after};
+ghost use Rattle.draws.specs.Replies.{next-birth, births-reply, row-after, supply-after};
 use crate::range::in_range;
 use crate::range::numbers_for;
 use models::model::Model;
 use refusals::Refusal;
 use sources::Source;
 
+// The birth of the next number.
+fn next_birth<M: Model, R: Source>(model: &M, source: &mut R) -> Result<M::State, Refusal>
+    ensures answer { λ r. ⌜ r ≡ next-birth (meaning (now (model .entry))) (supply (now (source .entry))) ⌝ }
+    ensures rest { λ _. ⌜ supply (now (source .exit)) ≡ left (supply (now (source .entry))) ⌝ }
+{
+    Ok(model.birth(source.draw()?))
+}
+
 fn fill<M: Model, R: Source>(model: &M, source: &mut R, row: &mut [M::State]) -> Result<(), Refusal>
     requires { ⌜ supply (now source) .can (length (now row)) ≡ true ⌝ }
     ensures reply { λ r. ⌜ r ≡ Ok tt ⌝ }
     ensures row { λ _. ⌜ now (row .exit) ≡ births (meaning (now (model .entry))) (supply (now (source .entry))) (length (now (row .entry))) ⌝ }
     ensures rest { λ _. ⌜ supply (now (source .exit)) ≡ after (length (now (row .entry))) (supply (now (source .entry))) ⌝ }
+    ensures states { λ _. ⌜ all-states (State·State .kind) (now (row .exit)) ≡ true ⌝ }
 {
     for place in row.iter_mut() {
-        *place = model.birth(source.draw()?);
+        *place = next_birth(model, source)?;
     }
     Ok(())
 }

@@ -5,9 +5,9 @@ ghost use lib.ListN.{length};
 ghost use Rattle.std.specs.Results.{isOk};
 ghost use Rattle.std.specs.Vec.{made};
 ghost use Rattle.std.specs.declared.result.Result.the-variants.{Ok};
-ghost use Rattle.sources.specs.Supplies.{after};
+ghost use Rattle.sources.specs.Supplies.{after, left};
 ghost use Rattle.draws.specs.Rows.{moves, all-states};
-ghost use Rattle.draws.specs.Replies.{movable, moves-reply, row-after, supply-after};
+ghost use Rattle.draws.specs.Replies.{next-move, movable, moves-reply, row-after, supply-after};
 use crate::range::in_range;
 use crate::range::numbers_for;
 use models::model::Model;
@@ -26,6 +26,19 @@ fn are_states<S: State>(row: &[S]) -> bool
     true
 }
 
+// The move of a value under the command and the next number.
+fn next_move<M: Model, R: Source>(
+    model: &M,
+    source: &mut R,
+    command: u8,
+    state: M::State,
+) -> Result<M::State, Refusal>
+    ensures answer { λ r. ⌜ r ≡ next-move (State·State .kind) (meaning (now (model .entry))) command (supply (now (source .entry))) state ⌝ }
+    ensures rest { λ _. ⌜ supply (now (source .exit)) ≡ left (supply (now (source .entry))) ⌝ }
+{
+    model.advance(state, command, source.draw()?)
+}
+
 fn advance_all<M: Model, R: Source>(
     model: &M,
     source: &mut R,
@@ -37,9 +50,10 @@ fn advance_all<M: Model, R: Source>(
     ensures reply { λ r. ⌜ r ≡ Ok tt ⌝ }
     ensures row { λ _. ⌜ now (row .exit) ≡ moves (meaning (now (model .entry))) command (supply (now (source .entry))) (now (row .entry)) ⌝ }
     ensures rest { λ _. ⌜ supply (now (source .exit)) ≡ after (length (now (row .entry))) (supply (now (source .entry))) ⌝ }
+    ensures states { λ _. ⌜ all-states (State·State .kind) (now (row .exit)) ≡ true ⌝ }
 {
     for place in row.iter_mut() {
-        *place = model.advance(*place, command, source.draw()?)?;
+        *place = next_move(model, source, command, *place)?;
     }
     Ok(())
 }
