@@ -5,4 +5,9 @@ pub mod Refusals
 pub mod Steps
 pub mod Replies
 pub mod Runs
+pub mod Sound
+pub mod Makings
+pub mod Descents
+pub mod Genealogies
+pub mod Theorems
 pub mod Examples

@@ -1,5 +1,48 @@
-// Statements about the definitions.
+// Statements about the definitions, each for every type of states.
 ghost use Rattle.filter.specs.Examples.{Examples};
+ghost use Rattle.filter.specs.Theorems.{Every-step-keeps-soundness, Every-step-balances, Every-step-keeps-states, Every-run-is-sound, Every-run-keeps-states, Every-run-has-its-genealogy};
+
+// Any call leaves a sound filter sound, whatever the model.
+pub fn every_step_keeps_soundness<S>() -> bool
+    ensures { λ _. ⌜ Every-step-keeps-soundness S ⌝ }
+{
+    true
+}
+
+// A call changes the number of nodes in use by those that it issued and those that it freed.
+pub fn every_step_balances<S>() -> bool
+    ensures { λ _. ⌜ Every-step-balances S ⌝ }
+{
+    true
+}
+
+// Under a lawful model, a call brings only states onto paths.
+pub fn every_step_keeps_states<S>() -> bool
+    ensures { λ _. ⌜ Every-step-keeps-states S ⌝ }
+{
+    true
+}
+
+// Every run from a fresh filter leaves it sound.
+pub fn every_run_is_sound<S>() -> bool
+    ensures { λ _. ⌜ Every-run-is-sound S ⌝ }
+{
+    true
+}
+
+// After every run under a lawful model, only states are on paths.
+pub fn every_run_keeps_states<S>() -> bool
+    ensures { λ _. ⌜ Every-run-keeps-states S ⌝ }
+{
+    true
+}
+
+// After every run each state descends, no draw serves two nodes, the nodes in use are those issued less those freed, and every run of neighbours got its share.
+pub fn every_run_has_its_genealogy<S>() -> bool
+    ensures { λ _. ⌜ Every-run-has-its-genealogy S ⌝ }
+{
+    true
+}
 
 // The worked examples hold of the definitions that the contracts cite.
 pub fn examples_hold() -> bool
