@@ -27,7 +27,7 @@ use Rattle.filter.specs.Makings.{Making, making, makings, All-apart}
 use Rattle.filter.specs.Descents.{Descends}
 use Rattle.filter.specs.Genealogies.{is-done, Fair-turn, All-fair, Genealogy}
 use Rattle.filter.specs.Theorems.{Every-run-is-sound, Every-run-keeps-states, Every-run-has-its-genealogy}
-use Rattle.filter.proofs.Grants.{resampled}
+use Rattle.filter.proofs.Grants.{resamples}
 use Rattle.filter.proofs.Sounds.{step-sound, step-balances, fresh-sound}
 use Rattle.filter.proofs.States.{step-states}
 use Rattle.filter.proofs.Makings.{Within, within-more, apart-more}
@@ -97,7 +97,7 @@ module _ {S : Type 0} (m : Meaning S) (f : Filter S) (s : Sound f) (call : Call)
   descends-settled q d drawn b count gs (Some x) e w h = all-more m q _ gs (all-paths f) h
 
   fair-settled : (r : Option Refusal) → refusal m f call ≡ r → Told-by r → call ≡ resample → is-done told ≡ true → Fair (f .weights) (parents-now f)
-  fair-settled None e w c t = resampled m f s (ap (refusal m f) (sym c) ∙ e) .marked .every-run-of-neighbours-gets-its-share
+  fair-settled None e w c t = resamples m f s (ap (refusal m f) (sym c) ∙ e) .marked .every-run-of-neighbours-gets-its-share
   fair-settled (Some x) e w c t = absurd (false≢true (ap is-done (sym w) ∙ t))
 
 -- Runs

@@ -74,49 +74,65 @@ lawful-after s n l h = record {
 }
 
 module _ {S : Type 0} (m : Meaning S) (f : Filter S) where
-  pub record Started (n : ℕ) : Type 0 where
+  pub record Starts (n : ℕ) : Type 0 where
     pub empty : f .phase ≡ Empty
     pub ranged : in-range n ≡ true
     pub roomy : n ≤ free f
     pub supplied : f .source .can n ≡ true
 
-  pub started : (n : ℕ) → refusal m f (start n) ≡ None → Started n
-  started n e =
+  pub starts : (n : ℕ) → refusal m f (start n) ≡ None → Starts n
+  starts n e =
       let a = unless-none _ _ _ e in
       let b = unless-none _ _ _ (a .1) in
       let c = unless-none _ _ _ (b .1) in
       let d = unless-none _ _ _ (c .1) in
       record { empty = empty-now _ (a .0); ranged = b .0; roomy = leb-true _ _ (c .0); supplied = d .0 }
 
-  pub record Advanced (c : ℕ) : Type 0 where
+  pub record Advances (c : ℕ) : Type 0 where
     pub living : f .phase ≡ Empty → ⊥
     pub known : m .commands c ≡ true
     pub roomy : length (f .paths) ≤ free f
     pub supplied : f .source .can (length (f .paths)) ≡ true
 
-  pub advanced : (c : ℕ) → refusal m f (advance c) ≡ None → Advanced c
-  advanced c e =
+  pub advances : (c : ℕ) → refusal m f (advance c) ≡ None → Advances c
+  advances c e =
       let a = unless-none _ _ _ e in
       let b = unless-none _ _ _ (a .1) in
       let g = unless-none _ _ _ (b .1) in
       let d = unless-none _ _ _ (g .1) in
       record { living = not-empty-if-level _ (a .0); known = b .0; roomy = leb-true _ _ (g .0); supplied = d .0 }
 
-  pub weighed : (q : ℕ) → refusal m f (weigh q) ≡ None → f .phase ≡ Empty → ⊥
-  weighed q e = not-empty-if-level _ (unless-none _ _ _ e .0)
+  pub record Weighs (q : ℕ) : Type 0 where
+    pub living : f .phase ≡ Empty → ⊥
+    pub known : m .readings q ≡ true
 
-  pub in-hold : (k : ℕ) → refusal m f (hold k) ≡ None → k < length (f .paths)
-  in-hold k e = ltb-true _ _ (unless-none _ _ _ (unless-none _ _ _ e .1) .0)
+  pub weighs : (q : ℕ) → refusal m f (weigh q) ≡ None → Weighs q
+  weighs q e =
+      let a = unless-none _ _ _ e in
+      let b = unless-none _ _ _ (a .1) in
+      record { living = not-empty-if-level _ (a .0); known = b .0 }
+
+  pub record Holds (k : ℕ) : Type 0 where
+    pub living : is-living (f .phase) ≡ true
+    pub inside : k < length (f .paths)
+    pub place-left : some-closed (f .places) ≡ true
+
+  pub holds : (k : ℕ) → refusal m f (hold k) ≡ None → Holds k
+  holds k e =
+      let a = unless-none _ _ _ e in
+      let b = unless-none _ _ _ (a .1) in
+      let c = unless-none _ _ _ (b .1) in
+      record { living = a .0; inside = ltb-true _ _ (b .0); place-left = c .0 }
 
   -- a granted resampling: the weights are the particles', and the parents are those of the marks
-  pub record Resampled : Type 0 where
+  pub record Resamples : Type 0 where
     pub living : f .phase ≡ Empty → ⊥
     pub weights-all : length (f .weights) ≡ length (f .paths)
     pub supplied : f .source .can 1 ≡ true
     pub marked : Systematic (f .weights) (offset (f .source .to-come 0) (total (f .weights))) (parents-now f)
 
-  pub resampled : Sound f → refusal m f resample ≡ None → Resampled
-  resampled s e =
+  pub resamples : Sound f → refusal m f resample ≡ None → Resamples
+  resamples s e =
       let a = unless-none _ _ _ e in
       let b = unless-none _ _ _ (a .1) in
       let c = unless-none _ _ _ (b .1) in
@@ -128,16 +144,16 @@ module _ {S : Type 0} (m : Meaning S) (f : Filter S) where
         marked = systematic (f .weights) (offset (f .source .to-come 0) (total (f .weights))) (offset-below (f .source .to-come 0) (total (f .weights)) (ltb-true _ _ (c .0)) (s .supply-lawful .below 0));
       }
 
-  pub count-parents : Resampled → length (parents-now f) ≡ length (f .paths)
+  pub count-parents : Resamples → length (parents-now f) ≡ length (f .paths)
   count-parents r = r .marked .count ∙ r .weights-all
 
-  parents-within : Resampled → All (λ i. i < length (f .paths)) (parents-now f)
+  parents-within : Resamples → All (λ i. i < length (f .paths)) (parents-now f)
   parents-within r =
       all-from-getD (λ i. i < length (f .paths)) (parents-now f) 0
       (λ k h. omega (arith, r .weights-all, r .marked .count, r .marked .marked k (omega (arith, r .marked .count)) .within))
 
   -- the new paths of a granted resampling are old ones
-  pub all-resampled : (P : Path-of S → Type 0) → Resampled → All P (f .paths) → All P (map (path f) (parents-now f))
+  pub all-resampled : (P : Path-of S → Type 0) → Resamples → All P (f .paths) → All P (map (path f) (parents-now f))
   all-resampled P r h =
       all-map P (path f) (parents-now f)
       (all-weaker (λ i. i < length (f .paths)) (λ i. P (path f i)) (λ i l. all-getD P (f .paths) i [] l h) (parents-now f) (parents-within r))

@@ -27,7 +27,7 @@ use Rattle.filter.specs.Replies.{issued-by, freed, answer, replied, reply, tol
 use Rattle.filter.specs.Sound.{Falling, Sound}
 use Rattle.filter.specs.Theorems.{Every-step-keeps-soundness, Every-step-balances}
 use Rattle.filter.proofs.Alls.{all-split, all-counting, all-opened, all-closed}
-use Rattle.filter.proofs.Grants.{empty-now, level-not-empty, level-not-weighed, empty-not-weighed, weighed-not-empty, lawful-after, started, advanced, weighed, in-hold, resampled, count-parents, all-resampled}
+use Rattle.filter.proofs.Grants.{empty-now, level-not-empty, level-not-weighed, empty-not-weighed, weighed-not-empty, lawful-after, starts, advances, weighs, holds as held, resamples, count-parents, all-resampled}
 use Rattle.filter.proofs.Serials.{Low, low-paths, low-serials, low-more, Among, among, in-use-among, in-use-grown, born-low, born-old, born-new, Begun, longer-low, longer-old, longer-new, longer-fall, longer-begun, longer-even, length-longer}
 
 module _ {S : Type 0} (m : Meaning S) (f : Filter S) (s : Sound f) where
@@ -48,12 +48,12 @@ module _ {S : Type 0} (m : Meaning S) (f : Filter S) (s : Sound f) where
   weigh-among q place P a b = all-append P (f .paths) holds a b
 
   pub resample-among : (place : ℕ) → refusal m f resample ≡ None → Among f (granted m f resample place)
-  resample-among place e P a b = all-append P (map (path f) (parents-now f)) holds (all-resampled m f P (resampled m f s e) a) b
+  resample-among place e P a b = all-append P (map (path f) (parents-now f)) holds (all-resampled m f P (resamples m f s e) a) b
 
   pub hold-among : (k place : ℕ) → refusal m f (hold k) ≡ None → Among f (granted m f (hold k) place)
   hold-among k place e P a b =
       all-append P (f .paths) (opened (set (f .places) place (Some (path f k)))) a
-      (all-opened P (f .places) place (path f k) (all-getD P (f .paths) k [] (in-hold m f k e) a) b)
+      (all-opened P (f .places) place (path f k) (all-getD P (f .paths) k [] (held m f k e .inside) a) b)
 
   pub give-back-among : (stamp given place : ℕ) → Among f (granted m f (give-back stamp given) place)
   give-back-among stamp given place P a b = all-append P (f .paths) (opened (set (f .places) given None)) a (all-closed P (f .places) given b)
@@ -74,7 +74,7 @@ module _ {S : Type 0} (m : Meaning S) (f : Filter S) (s : Sound f) where
 
   start-uses : (n place : ℕ) → refusal m f (start n) ≡ None → in-use (granted m f (start n) place) ≡ in-use f + n
   start-uses n place e =
-      let nobody : f .paths ≡ [] = s .nobody-while-empty (started m f n e .empty) in
+      let nobody : f .paths ≡ [] = s .nobody-while-empty (starts m f n e .empty) in
       in-use-grown f (granted m f (start n) place) n (s .serials-below-issued) (low-serials (f .issued + n) (all-paths (granted m f (start n) place)) (start-low n place))
       (λ x l. born-old m f x holds 0 n (omega arith) ∙ ap (λ ps. member x (serials (ps ++ holds))) (sym nobody))
       (λ x l u. born-new m f x holds 0 n (omega arith) (omega arith))
@@ -112,7 +112,7 @@ module _ {S : Type 0} (m : Meaning S) (f : Filter S) (s : Sound f) where
 
   pub sound-granted : (call : Call) (place : ℕ) → refusal m f call ≡ None → Sound (granted m f call place)
   sound-granted (start n) place e =
-      let g = started m f n e in
+      let g = starts m f n e in
       let f′ : Filter S = granted m f (start n) place in
       let u : in-use f′ ≡ in-use f + n = start-uses n place e in
       let r : n ≤ f .room - in-use f = g .roomy in
@@ -130,7 +130,7 @@ module _ {S : Type 0} (m : Meaning S) (f : Filter S) (s : Sound f) where
         each-weighed = λ h. absurd (level-not-weighed h);
       }
   sound-granted (advance c) place e =
-      let g = advanced m f c e in
+      let g = advances m f c e in
       let n : ℕ = length (f .paths) in
       let f′ : Filter S = granted m f (advance c) place in
       let u : in-use f′ ≡ in-use f + n = advance-uses c place in
@@ -160,11 +160,11 @@ module _ {S : Type 0} (m : Meaning S) (f : Filter S) (s : Sound f) where
         sixteen-places = s .sixteen-places;
         in-use-within-room = within-among f′ a;
         nobody-while-empty = λ h. absurd (weighed-not-empty h);
-        particles-in-range = λ h. s .particles-in-range (weighed m f q e);
+        particles-in-range = λ h. s .particles-in-range (weighs m f q e .living);
         each-weighed = λ h. length-map (f .paths) (weight m q);
       }
   sound-granted resample place e =
-      let g = resampled m f s e in
+      let g = resamples m f s e in
       let f′ : Filter S = granted m f resample place in
       let a : Among f f′ = resample-among place e in
       record {

@@ -19,7 +19,7 @@ use Rattle.filter.specs.Steps.{born, births, all-longer, granted, settle}
 use Rattle.filter.specs.Sound.{Sound, Of-kind}
 use Rattle.filter.specs.Theorems.{Every-step-keeps-states}
 use Rattle.filter.proofs.Alls.{all-split, all-counting}
-use Rattle.filter.proofs.Grants.{advanced}
+use Rattle.filter.proofs.Grants.{advances}
 use Rattle.filter.proofs.Serials.{among}
 use Rattle.filter.proofs.Sounds.{weigh-among, resample-among, hold-among, give-back-among, finish-among}
 
@@ -40,7 +40,7 @@ module _ {S : Type 0} (k : Kind S) (m : Meaning S) (l : Lawful k m) (f : Filter 
   states-granted (start n) place e h = all-append States (births m f n) (opened (f .places)) (born-states n) (all-split States (f .paths) (opened (f .places)) h .1)
   states-granted (advance c) place e h =
       let r = all-split States (f .paths) (opened (f .places)) h in
-      all-append States (all-longer m f c 0 (f .paths)) (opened (f .places)) (longer-states c (advanced m f c e .known) 0 (f .paths) (r .0)) (r .1)
+      all-append States (all-longer m f c 0 (f .paths)) (opened (f .places)) (longer-states c (advances m f c e .known) 0 (f .paths) (r .0)) (r .1)
   states-granted (weigh q) place e h = among States f (granted m f (weigh q) place) (weigh-among m f s q place) h
   states-granted resample place e h = among States f (granted m f resample place) (resample-among m f s place e) h
   states-granted (hold i) place e h = among States f (granted m f (hold i) place) (hold-among m f s i place e) h

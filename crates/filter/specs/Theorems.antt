@@ -9,10 +9,14 @@ use Rattle.filter.specs.Filters.{Filter, fresh}
 use Rattle.filter.specs.Uses.{in-use}
 use Rattle.filter.specs.Calls.{Call}
 use Rattle.filter.specs.Steps.{step}
-use Rattle.filter.specs.Replies.{reply, told-issued, told-freed}
+use Rattle.filter.specs.Replies.{Reply, reply, told-issued, told-freed, Tells}
 use Rattle.filter.specs.Runs.{Turn, reached, Told}
 use Rattle.filter.specs.Sound.{Sound, Of-kind}
 use Rattle.filter.specs.Genealogies.{Genealogy}
+
+-- every call can be told of: a hold that is granted finds a closed place. So there are runs of any calls
+abbrev pub Every-call-has-a-reply : Type 0 → Type 0
+Every-call-has-a-reply S = (m : Meaning S) (f : Filter S) (call : Call) → (told : Reply) × Tells m f call told
 
 -- any call leaves a sound filter sound, whatever the model
 abbrev pub Every-step-keeps-soundness : Type 0 → Type 0

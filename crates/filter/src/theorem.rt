@@ -1,6 +1,13 @@
 // Statements about the definitions, each for every type of states.
 ghost use Rattle.filter.specs.Examples.{Examples};
-ghost use Rattle.filter.specs.Theorems.{Every-step-keeps-soundness, Every-step-balances, Every-step-keeps-states, Every-run-is-sound, Every-run-keeps-states, Every-run-has-its-genealogy};
+ghost use Rattle.filter.specs.Theorems.{Every-call-has-a-reply, Every-step-keeps-soundness, Every-step-balances, Every-step-keeps-states, Every-run-is-sound, Every-run-keeps-states, Every-run-has-its-genealogy};
+
+// Every call can be told of, so there are runs of any calls.
+pub fn every_call_has_a_reply<S>() -> bool
+    ensures { λ _. ⌜ Every-call-has-a-reply S ⌝ }
+{
+    true
+}
 
 // Any call leaves a sound filter sound, whatever the model.
 pub fn every_step_keeps_soundness<S>() -> bool
