@@ -11,3 +11,4 @@ pub mod Descents
 pub mod Genealogies
 pub mod Theorems
 pub mod Examples
+pub mod RefusalExamples

@@ -1,5 +1,6 @@
 // Statements about the definitions, each for every type of states.
-ghost use Rattle.filter.specs.Examples.{Examples};
+ghost use Rattle.filter.specs.Examples.{Worked-run};
+ghost use Rattle.filter.specs.RefusalExamples.{Worked-refusals};
 ghost use Rattle.filter.specs.Theorems.{Every-call-has-a-reply, Every-step-keeps-soundness, Every-step-balances, Every-step-keeps-states, Every-run-is-sound, Every-run-keeps-states, Every-run-has-its-genealogy};
 
 // Every call can be told of, so there are runs of any calls.
@@ -51,9 +52,16 @@ pub fn every_run_has_its_genealogy<S>() -> bool
     true
 }
 
-// The worked examples hold of the definitions that the contracts cite.
-pub fn examples_hold() -> bool
-    ensures { λ _. ⌜ Examples ⌝ }
+// A worked run holds of the definitions that the contracts cite.
+pub fn worked_run_holds() -> bool
+    ensures { λ _. ⌜ Worked-run ⌝ }
+{
+    true
+}
+
+// So do worked examples of every refusal and of their order.
+pub fn worked_refusals_hold() -> bool
+    ensures { λ _. ⌜ Worked-refusals ⌝ }
 {
     true
 }
