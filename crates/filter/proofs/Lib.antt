@@ -1,0 +1,10 @@
+pub mod Alls
+pub mod Grants
+pub mod Counts
+pub mod Serials
+pub mod Replies
+pub mod Sounds
+pub mod States
+pub mod Makings
+pub mod Descents
+pub mod Genealogies

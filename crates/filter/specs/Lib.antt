@@ -1,0 +1,14 @@
+pub mod Filters
+pub mod Uses
+pub mod Calls
+pub mod Refusals
+pub mod Steps
+pub mod Replies
+pub mod Runs
+pub mod Sound
+pub mod Makings
+pub mod Descents
+pub mod Genealogies
+pub mod Theorems
+pub mod Examples
+pub mod RefusalExamples

@@ -1,0 +1,73 @@
+-- Worked examples of refusals, and of their order. Assumes nothing.
+use mathlib.Core.Path.{_≡_}
+use mathlib.Core.List.{List, [], _∷_}
+use Prim.Native.Nat.{ℕ}
+use lib.ListN.{replicate}
+use Rattle.std.specs.declared.option.Option.the-variants.{Some}
+use Rattle.refusals.specs.declared.Refusal.the-variants.{WrongPhase, OutOfRange, Unknown, NotHeld, NoPlaceLeft, NoNodesLeft, SourceDry, AllZero}
+use Rattle.sources.specs.Rows.{recorded-supply}
+use Rattle.models.specs.Meanings.{Meaning}
+use Rattle.models.specs.declared.pose.Pose.{Pose}
+use Rattle.models.specs.declared.lift_state.LiftState.{LiftState}
+use Rattle.models.specs.Grids.{grid-meaning}
+use Rattle.models.specs.Lifts.{lift-meaning}
+use Rattle.filter.specs.Filters.{Filter, fresh}
+use Rattle.filter.specs.Calls.{start, advance, weigh, resample, hold, give-back, finish}
+use Rattle.filter.specs.Steps.{with-places}
+use Rattle.filter.specs.Replies.{refused, done, weighing}
+use Rattle.filter.specs.Examples.{obeyed, tells, five-numbers, to-weighed, to-resampled, to-finished}
+
+-- the lift with three nodes and five numbers
+abbrev pub three-nodes : Filter LiftState
+three-nodes = fresh 3 7 (recorded-supply (0 ∷ 0 ∷ 0 ∷ 0 ∷ 0 ∷ []))
+
+-- two particles and no closed place
+abbrev pub all-open : Filter LiftState
+all-open = with-places (obeyed lift-meaning five-numbers (start 2 ∷ [])) (replicate 16 (Some []))
+
+-- a grid of nothing but walls, where every score is 0
+abbrev pub walls : Meaning Pose
+walls = grid-meaning (replicate 32 4294967295)
+
+abbrev pub one-number : Filter Pose
+one-number = fresh 8 7 (recorded-supply (0 ∷ []))
+
+abbrev pub two-numbers : Filter Pose
+two-numbers = fresh 8 7 (recorded-supply (0 ∷ 0 ∷ []))
+
+pub record Worked-refusals : Type 0 where
+  -- start: phase, range, nodes, numbers
+  pub started-already : tells lift-meaning five-numbers (start 2 ∷ []) (start 0) ≡ refused WrongPhase
+  pub no-particles : tells lift-meaning three-nodes [] (start 0) ≡ refused OutOfRange
+  pub too-many-particles : tells lift-meaning three-nodes [] (start 257) ≡ refused OutOfRange
+  pub most-particles : tells lift-meaning three-nodes [] (start 256) ≡ refused NoNodesLeft
+  pub too-few-nodes : tells lift-meaning three-nodes [] (start 6) ≡ refused NoNodesLeft
+  pub too-few-numbers : tells lift-meaning five-numbers [] (start 6) ≡ refused SourceDry
+  -- advance: phase, command, nodes, numbers
+  pub advance-of-nobody : tells lift-meaning five-numbers [] (advance 3) ≡ refused WrongPhase
+  pub advance-of-weighed : tells lift-meaning five-numbers to-weighed (advance 3) ≡ refused WrongPhase
+  pub unknown-command : tells lift-meaning three-nodes (start 2 ∷ []) (advance 3) ≡ refused Unknown
+  pub nodes-in-use-are-not-free : tells lift-meaning three-nodes (start 3 ∷ []) (advance 1) ≡ refused NoNodesLeft
+  pub too-few-to-advance : tells lift-meaning five-numbers (start 3 ∷ []) (advance 1) ≡ refused SourceDry
+  -- weigh: phase, reading
+  pub weigh-nobody : tells lift-meaning five-numbers [] (weigh 3) ≡ refused WrongPhase
+  pub weigh-again : tells lift-meaning five-numbers to-weighed (weigh 3) ≡ refused WrongPhase
+  pub unknown-reading : tells lift-meaning five-numbers (start 2 ∷ []) (weigh 3) ≡ refused Unknown
+  pub reading-is-no-command : tells walls two-numbers (start 1 ∷ []) (weigh 31) ≡ done 0 0 (weighing 0)
+  pub command-is-no-reading : tells walls two-numbers (start 1 ∷ []) (advance 31) ≡ refused Unknown
+  -- resample: phase, numbers, zeros
+  pub resample-level : tells walls one-number (start 1 ∷ []) resample ≡ refused WrongPhase
+  pub resample-again : tells lift-meaning five-numbers to-resampled resample ≡ refused WrongPhase
+  pub dry-before-zero : tells walls one-number (weigh 0 ∷ start 1 ∷ []) resample ≡ refused SourceDry
+  pub all-zero : tells walls two-numbers (weigh 0 ∷ start 1 ∷ []) resample ≡ refused AllZero
+  -- hold: phase, particle, place
+  pub hold-nobody : tells lift-meaning five-numbers [] (hold 0) ≡ refused WrongPhase
+  pub no-such-particle : tells lift-meaning all-open [] (hold 2) ≡ refused OutOfRange
+  pub no-place-left : tells lift-meaning all-open [] (hold 1) ≡ refused NoPlaceLeft
+  -- give back
+  pub given-back-twice : tells lift-meaning five-numbers (give-back 7 3 ∷ to-finished) (give-back 7 3) ≡ refused NotHeld
+  pub another-stamp : tells lift-meaning five-numbers to-finished (give-back 8 3) ≡ refused NotHeld
+  pub another-place : tells lift-meaning five-numbers to-finished (give-back 7 2) ≡ refused NotHeld
+  pub no-such-place : tells lift-meaning five-numbers to-finished (give-back 7 16) ≡ refused NotHeld
+  -- finish
+  pub finish-nobody : tells lift-meaning five-numbers [] finish ≡ refused WrongPhase

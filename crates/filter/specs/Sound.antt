@@ -1,0 +1,35 @@
+-- Sound filters: what every filter is that calls can reach. Assumes nothing.
+use mathlib.Core.Path.{_≡_}
+use mathlib.Core.Bool.{true}
+use mathlib.Core.List.{[], _∷_}
+use Prim.Native.Nat.{_+_, _<_, _≤_}
+use lib.ListN.{length}
+use Rattle.std.specs.shelf.Lists.{All}
+use Rattle.resampling.specs.Calls.{in-range}
+use Rattle.sources.specs.Supplies.{Lawful}
+use Rattle.models.specs.Kinds.{Kind}
+use Rattle.filter.specs.declared.phase.Phase.the-variants.{Empty, Weighed}
+use Rattle.filter.specs.Filters.{Path-of, Filter}
+use Rattle.filter.specs.Uses.{all-paths, serials, in-use}
+
+-- serials fall from the newest pair to the oldest
+abbrev pub Falling : {S : Type 0} → Path-of S → Type 0
+Falling [] = Unit {0}
+Falling (x ∷ []) = Unit {0}
+Falling (y ∷ x ∷ p) = (x .serial < y .serial) × Falling (x ∷ p)
+
+pub record Sound {S : Type 0} (f : Filter S) : Type 0 where
+  pub supply-lawful : Lawful (f .source)
+  pub serials-fall : All Falling (all-paths f)
+  pub serials-below-issued : All (λ s. s < f .issued) (serials (all-paths f))
+  pub paths-begun : All (λ p. 0 < length p) (all-paths f)
+  pub paths-as-long-as-round : All (λ p. length p ≡ f .round + 1) (f .paths)
+  pub sixteen-places : length (f .places) ≡ 16
+  pub in-use-within-room : in-use f ≤ f .room
+  pub nobody-while-empty : f .phase ≡ Empty → f .paths ≡ []
+  pub particles-in-range : (f .phase ≡ Empty → ⊥) → in-range (length (f .paths)) ≡ true
+  pub each-weighed : f .phase ≡ Weighed → length (f .weights) ≡ length (f .paths)
+
+-- every value on a path is a state of the kind
+abbrev pub Of-kind : {S : Type 0} → Kind S → Filter S → Type 0
+Of-kind k f = All (All (λ x. k .is (x .state) ≡ true)) (all-paths f)
