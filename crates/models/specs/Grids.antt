@@ -55,7 +55,7 @@ reach rows p d = unless-wall rows (ahead p d)
 abbrev pub grid-birth : ℕ → Pose
 grid-birth r = pose (r / 2 ^ 27) (r / 2 ^ 22 % 32) (heading-of (r / 2 ^ 20 % 4))
 
--- to the next cell, or nowhere if that is a wall or outside
+-- to the next cell, or it stays if that is a wall or outside
 abbrev pub single-forward : List ℕ → Pose → Pose
 single-forward rows p = valueOr (reach rows p 1) p
 

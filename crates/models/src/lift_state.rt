@@ -26,7 +26,7 @@ impl Mode {
     }
 }
 
-// A mode, and how many moves it has lasted.
+// A mode, and how many moves it has lasted, up to 99.
 #[derive(Clone, Copy)]
 pub struct LiftState {
     pub mode: Mode,
