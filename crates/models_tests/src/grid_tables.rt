@@ -236,7 +236,7 @@ fn print_backs(rt: &LibcRuntime) -> Result<(), AnyError> {
     Ok(())
 }
 
-pub fn print_all(rt: &LibcRuntime) -> Result<(), AnyError> {
+pub(crate) fn print_all(rt: &LibcRuntime) -> Result<(), AnyError> {
     let mut grid = Grid::empty();
     // walls at both ends of row 0, around 10 10, and two in a row next to 20 20 and 25 26
     for (y, bits) in [

@@ -144,7 +144,7 @@ fn print_no_state(rt: &LibcRuntime) -> Result<(), AnyError> {
     Ok(())
 }
 
-pub fn print_all(rt: &LibcRuntime) -> Result<(), AnyError> {
+pub(crate) fn print_all(rt: &LibcRuntime) -> Result<(), AnyError> {
     print_slips(rt)?;
     print_slips_twice(rt)?;
     print_slips_of_lift(rt)?;

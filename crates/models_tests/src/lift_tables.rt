@@ -111,7 +111,7 @@ fn print_backs(rt: &LibcRuntime) -> Result<(), AnyError> {
     Ok(())
 }
 
-pub fn print_all(rt: &LibcRuntime) -> Result<(), AnyError> {
+pub(crate) fn print_all(rt: &LibcRuntime) -> Result<(), AnyError> {
     print_moves(rt)?;
     print_scores(rt)?;
     print_births(rt)?;

@@ -39,19 +39,19 @@ pub impl fmt::Display for Shown as ShownDisplay {
     }
 }
 
-pub fn refused(refusal: Refusal) -> Shown {
+pub(crate) fn refused(refusal: Refusal) -> Shown {
     Shown::Refused(refusal.number())
 }
 
-pub fn pose(p: Pose) -> Shown {
+pub(crate) fn pose(p: Pose) -> Shown {
     Shown::Pose(p.x, p.y, letter(p.heading))
 }
 
-pub fn lift_state(s: LiftState) -> Shown {
+pub(crate) fn lift_state(s: LiftState) -> Shown {
     Shown::Lift(s.mode as u8, s.counter)
 }
 
-pub fn code(code: Option<u32>) -> Shown {
+pub(crate) fn code(code: Option<u32>) -> Shown {
     match code {
         Some(n) => Shown::Number(n),
         None => Shown::None,
@@ -59,7 +59,7 @@ pub fn code(code: Option<u32>) -> Shown {
 }
 
 // The code of the state to which a move leads from the state with this code.
-pub fn code_after<M: Model>(model: &M, from: u32, command: u8, number: u32) -> Shown
+pub(crate) fn code_after<M: Model>(model: &M, from: u32, command: u8, number: u32) -> Shown
 where
     M::State: Coded,
 {
@@ -73,7 +73,7 @@ where
 }
 
 // The score of the reading in the state with this code.
-pub fn score_at<M: Model>(model: &M, at: u32, reading: u8) -> Shown
+pub(crate) fn score_at<M: Model>(model: &M, at: u32, reading: u8) -> Shown
 where
     M::State: Coded,
 {
@@ -87,7 +87,7 @@ where
 }
 
 // The code of the birth of the number.
-pub fn birth_code<M: Model>(model: &M, number: u32) -> Shown
+pub(crate) fn birth_code<M: Model>(model: &M, number: u32) -> Shown
 where
     M::State: Coded,
 {
