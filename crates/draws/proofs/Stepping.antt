@@ -41,11 +41,12 @@ module _ {S : Type 0} (m : Meaning S) (s : Supply) (xs : List S) (i : ℕ) (with
 pub none-moved : {S : Type 0} (m : Meaning S) (c : ℕ) (s : Supply) (xs : List S) → take 0 xs ++ moves-from m c s 0 (drop 0 xs) ≡ moves m c s xs
 none-moved m c s xs = refl
 
-pub all-moved : {S : Type 0} (m : Meaning S) (c : ℕ) (s : Supply) (xs : List S) (i : ℕ) → length xs ≤ i → take i xs ++ moves-from m c s i (drop i xs) ≡ xs
-all-moved {S} m c s xs i h =
-    ap (λ (l : List S). l ++ moves-from m c s i (drop i xs)) (take-all i xs h)
-    ∙ ap (λ (l : List S). xs ++ l) (at-drop-all (moves-from m c s i) xs i h)
-    ∙ append-nil xs
+pub all-moved : {S : Type 0} (m : Meaning S) (c : ℕ) (s : Supply) (xs old : List S) (i : ℕ) → length xs ≤ i → take i xs ++ moves-from m c s i (drop i xs) ≡ moves m c s old → xs ≡ moves m c s old
+all-moved {S} m c s xs old i h e =
+    sym (append-nil xs)
+    ∙ ap (λ (l : List S). xs ++ l) (sym (at-drop-all (moves-from m c s i) xs i h))
+    ∙ ap (λ (l : List S). l ++ moves-from m c s i (drop i xs)) (sym (take-all i xs h))
+    ∙ e
 
 module _ {S : Type 0} (k : Kind S) (xs : List S) (i : ℕ) (within : i < length xs) (x : S) (read : x ≡ getD xs i x) where
   -- the values from i on are states where that at i is one, and those after it are

@@ -60,7 +60,7 @@ returns g c =
     let old = c .args .row .now in
     let all : i ≡ length old = omega arith in
     let known = and-parts (m .commands (c .args .command)) (all-states kind old) (c .pre .known) in
-    let row : c .loop-place .row ≡ moves m (c .args .command) s old = sym (all-moved m (c .args .command) s (c .loop-place .row) i (omega arith)) ∙ c .loop-place .inv .1 in
+    let row : c .loop-place .row ≡ moves m (c .args .command) s old = all-moved m (c .args .command) s (c .loop-place .row) old i (omega arith) (c .loop-place .inv .1) in
     record {
       reply = refl;
       row = row;
