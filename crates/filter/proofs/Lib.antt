@@ -2,6 +2,7 @@ pub mod Alls
 pub mod Grants
 pub mod Counts
 pub mod Serials
+pub mod Agreements
 pub mod Replies
 pub mod Sounds
 pub mod States
