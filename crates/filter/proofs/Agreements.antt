@@ -1,20 +1,19 @@
 -- Paths that have the same serial are the same from there back. Assumes nothing.
-use mathlib.Core.Path.{_≡_, refl, sym, _∙_, ap, subst}
+use mathlib.Core.Path.{_≡_, sym, _∙_, ap, subst}
 use mathlib.Core.List.{List, [], _∷_, _++_}
 use Prim.Native.Nat.{ℕ, zero, suc, _+_, _≤_, _<_}
 use native.Mathlib.Nat.{not-suc-le-zero, le-of-suc-le-suc}
 use native.Mathlib.Omega.{arith}
-use lib.ListN.{length, getD, drop, length-map}
-use Rattle.std.specs.Iters.{counting}
+use lib.ListN.{length, getD, length-map}
 use Rattle.std.specs.shelf.Lists.{All}
 use Rattle.std.proofs.shelf.Counted.{length-map-counting, getD-map-counting}
 use Rattle.std.proofs.shelf.Elements.{all-append, all-getD, all-from-getD, all-weaker}
 use Rattle.models.specs.Meanings.{Meaning}
 use Rattle.filter.specs.Filters.{Pair, Path-of, Filter}
-use Rattle.filter.specs.Uses.{opened, all-paths, serials-on}
+use Rattle.filter.specs.Uses.{all-paths, serials-on}
 use Rattle.filter.specs.Steps.{born, births, longer, all-longer}
 use Rattle.filter.specs.Sound.{Agree, All-agree}
-use Rattle.filter.proofs.Alls.{all-split, all-both}
+use Rattle.filter.proofs.Alls.{all-both}
 use Rattle.filter.proofs.Serials.{Low, Among, among, length-longer}
 
 module _ {S : Type 0} where

@@ -1,19 +1,19 @@
 -- No path is longer than the nodes in use. Assumes nothing.
-use mathlib.Core.Path.{_≡_, refl, sym, _∙_, ap}
-use mathlib.Core.Bool.{Bool, true, false, cond}
-use mathlib.Core.List.{List, [], _∷_, _++_}
-use Prim.Native.Nat.{ℕ, zero, suc, _+_, _≤_, _<_}
+use mathlib.Core.Path.{_≡_, refl, _∙_, ap}
+use mathlib.Core.Bool.{Bool, false, cond}
+use mathlib.Core.List.{List, [], _∷_}
+use Prim.Native.Nat.{ℕ, suc, _+_, _≤_, _<_}
 use native.Mathlib.Omega.{arith}
 use lib.ListN.{length}
 use Rattle.std.specs.shelf.Lists.{All}
 use Rattle.std.proofs.shelf.Elements.{all-weaker}
 use Rattle.std.proofs.shelf.Tests.{ne-eqb, or-from}
-use Rattle.filter.specs.Filters.{Pair, Path-of, Filter}
+use Rattle.filter.specs.Filters.{Pair, Path-of}
 use Rattle.filter.specs.Uses.{all-paths, serials-on, serials, member, different, in-use}
-use Rattle.filter.specs.Sound.{Falling, Sound}
+use Rattle.filter.specs.Sound.{Falling}
 use Rattle.filter.specs.Theorems.{No-path-is-longer-than-the-nodes-in-use}
 use Rattle.filter.proofs.Alls.{all-both}
-use Rattle.filter.proofs.Counts.{count, count-mono, different-is}
+use Rattle.filter.proofs.Counts.{count-mono, different-is}
 use Rattle.filter.proofs.Serials.{Low, low-paths, Covered, covered-self}
 
 not-below : (s : ℕ) (xs : List ℕ) → All (λ x. x < s) xs → member s xs ≡ false
@@ -46,12 +46,13 @@ lengths S f s =
     let all : List ℕ = serials (all-paths f) in
     all-weaker (λ p. Falling p × (Low b p × Covered all p)) (λ p. length p ≤ different all)
     (λ p h.
-      omega
-      ( arith
-      , all-different p (h .0)
-      , different-is (serials-on p) b (h .1 .0)
-      , different-is all b (s .serials-below-issued)
-      , count-mono (λ x. member x (serials-on p)) (λ x. member x all) b (h .1 .1)))
+    omega (
+      arith,
+      all-different p (h .0),
+      different-is (serials-on p) b (h .1 .0),
+      different-is all b (s .serials-below-issued),
+      count-mono (λ x. member x (serials-on p)) (λ x. member x all) b (h .1 .1),
+    ))
     (all-paths f)
     (all-both Falling (λ p. Low b p × Covered all p) (all-paths f) (s .serials-fall)
     (all-both (Low b) (Covered all) (all-paths f) (low-paths b (all-paths f) (s .serials-below-issued)) (covered-self all (all-paths f) (λ x e. e))))

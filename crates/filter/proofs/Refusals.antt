@@ -2,14 +2,14 @@
 use mathlib.Core.Path.{_≡_, ap}
 use Prim.Native.Nat.{ℕ}
 use Rattle.std.specs.declared.option.Option.{Option}
-use Rattle.std.specs.declared.option.Option.the-variants.{Some, None}
+use Rattle.std.specs.declared.option.Option.the-variants.{Some}
 use Rattle.refusals.specs.declared.Refusal.{Refusal}
 use Rattle.models.specs.Meanings.{Meaning}
 use Rattle.filter.specs.Filters.{Filter}
 use Rattle.filter.specs.Calls.{Call}
 use Rattle.filter.specs.Refusals.{refusal}
 use Rattle.filter.specs.Steps.{granted, settle, step}
-use Rattle.filter.specs.Replies.{done, issued-by, freed, answer, replied, reply}
+use Rattle.filter.specs.Replies.{issued-by, freed, answer, replied, reply}
 use Rattle.filter.specs.Theorems.{A-refused-call-changes-nothing}
 
 module _ {S : Type 0} (m : Meaning S) (f : Filter S) (call : Call) (place : ℕ) where

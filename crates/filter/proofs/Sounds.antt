@@ -1,11 +1,9 @@
 -- Every call leaves a sound filter sound, and the nodes in use balance. Assumes nothing.
-use mathlib.Core.Path.{_≡_, refl, sym, _∙_, ap, subst}
-use mathlib.Core.Bool.{true}
-use mathlib.Core.List.{List, [], _∷_, _++_, map}
-use Prim.Native.Nat.{ℕ, zero, suc, _+_, _-_, _≤_, _<_}
-use native.Mathlib.Nat.{add-zero}
+use mathlib.Core.Path.{_≡_, refl, sym, _∙_, ap}
+use mathlib.Core.List.{List, [], _++_, map}
+use Prim.Native.Nat.{ℕ, _+_, _-_, _≤_, _<_}
 use native.Mathlib.Omega.{arith}
-use lib.ListN.{length, getD, set, length-map, length-set}
+use lib.ListN.{length, set, length-map, length-set}
 use Rattle.std.specs.Iters.{counting}
 use Rattle.std.specs.shelf.Lists.{All}
 use Rattle.std.specs.declared.option.Option.{Option}
@@ -16,18 +14,16 @@ use Rattle.refusals.specs.declared.Refusal.{Refusal}
 use Rattle.resampling.specs.Calls.{in-range}
 use Rattle.sources.specs.Supplies.{Supply, Lawful}
 use Rattle.models.specs.Meanings.{Meaning}
-use Rattle.filter.specs.declared.phase.Phase.{Phase}
-use Rattle.filter.specs.declared.phase.Phase.the-variants.{Empty, Level, Weighed}
 use Rattle.filter.specs.Filters.{Path-of, Filter, fresh}
-use Rattle.filter.specs.Uses.{opened, all-paths, serials, member, different, in-use, free}
+use Rattle.filter.specs.Uses.{opened, all-paths, serials, member, in-use}
 use Rattle.filter.specs.Calls.{Call, start, advance, weigh, resample, hold, give-back, finish}
 use Rattle.filter.specs.Refusals.{refusal}
-use Rattle.filter.specs.Steps.{born, births, all-longer, weight, path, parents-now, granted, settle, step}
-use Rattle.filter.specs.Replies.{issued-by, freed, answer, replied, reply, told-issued, told-freed}
+use Rattle.filter.specs.Steps.{born, births, all-longer, weight, path, parents-now, granted, settle}
+use Rattle.filter.specs.Replies.{issued-by, freed, answer, replied, told-issued, told-freed}
 use Rattle.filter.specs.Sound.{Falling, Agree, All-agree, Sound}
 use Rattle.filter.specs.Theorems.{Every-step-keeps-soundness, Every-step-balances}
 use Rattle.filter.proofs.Alls.{all-split, all-counting, all-opened, all-closed}
-use Rattle.filter.proofs.Grants.{empty-now, level-not-empty, level-not-weighed, empty-not-weighed, weighed-not-empty, lawful-after, starts, advances, weighs, holds as held, resamples, count-parents, all-resampled}
+use Rattle.filter.proofs.Grants.{level-not-empty, level-not-weighed, empty-not-weighed, weighed-not-empty, lawful-after, starts, advances, weighs, holds as held, resamples, count-parents, all-resampled}
 use Rattle.filter.proofs.Serials.{Low, low-paths, low-serials, low-more, Among, among, in-use-among, in-use-grown, born-low, born-old, born-new, Begun, longer-low, longer-old, longer-new, longer-fall, longer-begun, longer-even, length-longer}
 use Rattle.filter.proofs.Agreements.{agree-beside, agree-among, births-agree, births-agree-old, all-longer-agree, all-longer-agree-old}
 
