@@ -1,15 +1,14 @@
 -- Every state on a path descends, call by call. Assumes nothing.
 use mathlib.Core.Path.{_≡_, refl, sym, _∙_, ap}
-use mathlib.Core.Logic.{_⊎_, inl, inr}
-use mathlib.Core.List.{List, [], _∷_, _++_}
-use Prim.Native.Nat.{ℕ, _+_, _≤_, _<_}
+use mathlib.Core.Logic.{inl, inr}
+use mathlib.Core.List.{List, [], _∷_}
+use Prim.Native.Nat.{ℕ, _+_, _≤_}
 use native.Mathlib.Nat.{add-comm}
 use native.Mathlib.Omega.{arith}
 use lib.ListN.{length}
 use Rattle.std.specs.Iters.{counting}
 use Rattle.std.specs.shelf.Lists.{All}
-use Rattle.std.specs.declared.option.Option.{Option}
-use Rattle.std.specs.declared.option.Option.the-variants.{Some, None}
+use Rattle.std.specs.declared.option.Option.the-variants.{None}
 use Rattle.std.proofs.shelf.Elements.{all-append, all-map, all-weaker}
 use Rattle.sources.specs.Supplies.{Supply, after}
 use Rattle.models.specs.Meanings.{Meaning}
@@ -21,7 +20,7 @@ use Rattle.filter.specs.Steps.{born, births, all-longer, granted}
 use Rattle.filter.specs.Replies.{issued-by}
 use Rattle.filter.specs.Sound.{Sound}
 use Rattle.filter.specs.Makings.{Making}
-use Rattle.filter.specs.Descents.{One-of, Is-birth, Is-move, Descends}
+use Rattle.filter.specs.Descents.{Descends}
 use Rattle.filter.proofs.Alls.{all-split, all-counting}
 use Rattle.filter.proofs.Serials.{among}
 use Rattle.filter.proofs.Sounds.{weigh-among, resample-among, hold-among, give-back-among, finish-among}

@@ -1,31 +1,30 @@
 -- What stands after every run. Assumes nothing.
 use mathlib.Core.Path.{_≡_, refl, sym, _∙_, ap, subst}
-use mathlib.Core.Bool.{Bool, true, false}
-use mathlib.Core.List.{List, [], _∷_, _++_}
-use Prim.Native.Nat.{ℕ, _+_, _≤_, _<_}
+use mathlib.Core.Bool.{true}
+use mathlib.Core.List.{List, [], _∷_}
+use Prim.Native.Nat.{ℕ, _+_, _≤_}
 use native.Mathlib.Nat.{add-zero}
 use native.Mathlib.Omega.{arith}
-use lib.ListN.{length}
 use Rattle.std.specs.shelf.Lists.{All}
 use Rattle.std.specs.declared.option.Option.{Option}
 use Rattle.std.specs.declared.option.Option.the-variants.{Some, None}
 use Rattle.std.proofs.shelf.Tests.{false≢true}
 use Rattle.refusals.specs.declared.Refusal.{Refusal}
 use Rattle.resampling.specs.Children.{Fair}
-use Rattle.sources.specs.Supplies.{Supply, Lawful, after}
+use Rattle.sources.specs.Supplies.{Supply, after}
 use Rattle.sources.proofs.Draws.{after-none, after-after}
 use Rattle.models.specs.Meanings.{Meaning}
-use Rattle.filter.specs.Filters.{Path-of, Filter, fresh}
-use Rattle.filter.specs.Uses.{opened, all-paths, in-use}
+use Rattle.filter.specs.Filters.{Filter, fresh}
+use Rattle.filter.specs.Uses.{all-paths, in-use}
 use Rattle.filter.specs.Calls.{Call, start, advance, weigh, resample, hold, give-back, finish}
 use Rattle.filter.specs.Refusals.{refusal}
-use Rattle.filter.specs.Steps.{parents-now, granted, settle, step}
-use Rattle.filter.specs.Replies.{Answer, Reply, refused, done, issued-by, freed, answer, replied, reply, told-issued, told-freed, told-place, Tells}
+use Rattle.filter.specs.Steps.{parents-now, granted, settle}
+use Rattle.filter.specs.Replies.{Answer, Reply, refused, done, issued-by, replied, told-issued, told-freed, told-place}
 use Rattle.filter.specs.Runs.{Turn, all-issued, all-freed, drawn-in, all-drawn, reached, Told}
-use Rattle.filter.specs.Sound.{Sound, Of-kind}
+use Rattle.filter.specs.Sound.{Sound}
 use Rattle.filter.specs.Makings.{Making, making, makings, All-apart}
 use Rattle.filter.specs.Descents.{Descends}
-use Rattle.filter.specs.Genealogies.{is-done, Fair-turn, All-fair, Genealogy}
+use Rattle.filter.specs.Genealogies.{is-done, All-fair}
 use Rattle.filter.specs.Theorems.{Every-run-is-sound, Every-run-keeps-states, Every-run-has-its-genealogy}
 use Rattle.filter.proofs.Grants.{resamples}
 use Rattle.filter.proofs.Sounds.{step-sound, step-balances, fresh-sound}

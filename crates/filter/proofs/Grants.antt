@@ -1,20 +1,18 @@
 -- What a granted call tells of the filter before it. Assumes nothing.
 use mathlib.Core.Path.{_≡_, refl, sym, _∙_, ap}
 use mathlib.Core.Bool.{Bool, true, false}
-use mathlib.Core.List.{List, [], _∷_, map}
-use Prim.Native.Nat.{ℕ, zero, suc, _+_, _≤_, _<_}
+use mathlib.Core.List.{[], map}
+use Prim.Native.Nat.{ℕ, _+_, _≤_, _<_}
 use native.Mathlib.Nat.{zero-add}
 use native.Mathlib.Omega.{arith}
-use lib.Dec.{leb, ltb}
-use lib.ListN.{length, getD}
+use lib.ListN.{length}
 use Rattle.std.specs.shelf.Lists.{All}
-use Rattle.std.specs.Iters.{counting}
 use Rattle.std.specs.declared.option.Option.{Option}
 use Rattle.std.specs.declared.option.Option.the-variants.{Some, None}
 use Rattle.std.proofs.shelf.Elements.{all-getD, all-from-getD, all-map, all-weaker}
 use Rattle.std.proofs.shelf.Tests.{ltb-true, leb-true}
 use Rattle.refusals.specs.declared.Refusal.{Refusal}
-use Rattle.resampling.specs.Marks.{total, offset, parents}
+use Rattle.resampling.specs.Marks.{total, offset}
 use Rattle.resampling.specs.Calls.{in-range}
 use Rattle.resampling.specs.Systematic.{Systematic}
 use Rattle.resampling.proofs.Owners.{offset-below}
@@ -25,7 +23,7 @@ use Rattle.filter.specs.declared.phase.Phase.{Phase}
 use Rattle.filter.specs.declared.phase.Phase.the-variants.{Empty, Level, Weighed}
 use Rattle.filter.specs.Filters.{Path-of, Filter}
 use Rattle.filter.specs.Uses.{free}
-use Rattle.filter.specs.Calls.{Call, start, advance, weigh, resample, hold, give-back, finish}
+use Rattle.filter.specs.Calls.{start, advance, weigh, resample, hold}
 use Rattle.filter.specs.Refusals.{is-empty, is-level, is-weighed, is-living, some-closed, unless, refusal}
 use Rattle.filter.specs.Steps.{path, parents-now}
 use Rattle.filter.specs.Sound.{Sound}

@@ -2,7 +2,10 @@ pub mod Alls
 pub mod Grants
 pub mod Counts
 pub mod Serials
+pub mod Agreements
+pub mod Refusals
 pub mod Replies
+pub mod Lengths
 pub mod Sounds
 pub mod States
 pub mod Makings

@@ -14,7 +14,7 @@ use Rattle.filter.specs.Filters.{Filter}
 use Rattle.filter.specs.Calls.{Call, start, advance, weigh, resample, hold, give-back, finish}
 use Rattle.filter.specs.Refusals.{some-closed, refusal}
 use Rattle.filter.specs.Steps.{granted}
-use Rattle.filter.specs.Replies.{Reply, refused, done, issued-by, freed, answer, replied, reply, told-place, Tells}
+use Rattle.filter.specs.Replies.{Reply, refused, done, issued-by, freed, answer, replied, reply, Tells}
 use Rattle.filter.specs.Theorems.{Every-call-has-a-reply}
 use Rattle.filter.proofs.Grants.{holds}
 

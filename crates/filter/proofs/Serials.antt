@@ -1,7 +1,7 @@
 -- Serials on lists of paths: their bounds, and which of them stay. Assumes nothing.
 use mathlib.Core.Path.{_≡_, refl, sym, _∙_, ap}
 use mathlib.Core.Logic.{_⊎_, inl, inr}
-use mathlib.Core.Bool.{Bool, true, false, _||_}
+use mathlib.Core.Bool.{true, false, _||_}
 use mathlib.Core.List.{List, [], _∷_, _++_, map}
 use Prim.Native.Nat.{ℕ, zero, suc, _+_, _≤_, _<_}
 use native.Mathlib.Nat.{not-suc-le-zero}
@@ -14,12 +14,12 @@ use Rattle.std.proofs.shelf.Elements.{all-append, all-map, all-weaker}
 use Rattle.std.proofs.shelf.Tests.{ne-eqb, or-cases, or-left, or-right, false≢true}
 use Rattle.std.proofs.shelf.Ways.{eqb-tells}
 use Rattle.models.specs.Meanings.{Meaning}
-use Rattle.filter.specs.Filters.{Pair, Path-of, Filter}
-use Rattle.filter.specs.Uses.{opened, all-paths, serials-on, serials, member, different, in-use}
-use Rattle.filter.specs.Steps.{born, births, longer, all-longer}
+use Rattle.filter.specs.Filters.{Path-of, Filter}
+use Rattle.filter.specs.Uses.{opened, all-paths, serials-on, serials, member, in-use}
+use Rattle.filter.specs.Steps.{born, births, all-longer}
 use Rattle.filter.specs.Sound.{Falling}
 use Rattle.filter.proofs.Alls.{all-split, all-counting}
-use Rattle.filter.proofs.Counts.{count, count-mono, count-grow, different-is, member-append}
+use Rattle.filter.proofs.Counts.{count-mono, count-grow, different-is, member-append}
 
 module _ {S : Type 0} where
   -- the path has a state

@@ -1,11 +1,9 @@
 -- Every call leaves a sound filter sound, and the nodes in use balance. Assumes nothing.
-use mathlib.Core.Path.{_≡_, refl, sym, _∙_, ap, subst}
-use mathlib.Core.Bool.{true}
-use mathlib.Core.List.{List, [], _∷_, _++_, map}
-use Prim.Native.Nat.{ℕ, zero, suc, _+_, _-_, _≤_, _<_}
-use native.Mathlib.Nat.{add-zero}
+use mathlib.Core.Path.{_≡_, refl, sym, _∙_, ap}
+use mathlib.Core.List.{List, [], _++_, map}
+use Prim.Native.Nat.{ℕ, _+_, _-_, _≤_, _<_}
 use native.Mathlib.Omega.{arith}
-use lib.ListN.{length, getD, set, length-map, length-set}
+use lib.ListN.{length, set, length-map, length-set}
 use Rattle.std.specs.Iters.{counting}
 use Rattle.std.specs.shelf.Lists.{All}
 use Rattle.std.specs.declared.option.Option.{Option}
@@ -16,19 +14,18 @@ use Rattle.refusals.specs.declared.Refusal.{Refusal}
 use Rattle.resampling.specs.Calls.{in-range}
 use Rattle.sources.specs.Supplies.{Supply, Lawful}
 use Rattle.models.specs.Meanings.{Meaning}
-use Rattle.filter.specs.declared.phase.Phase.{Phase}
-use Rattle.filter.specs.declared.phase.Phase.the-variants.{Empty, Level, Weighed}
 use Rattle.filter.specs.Filters.{Path-of, Filter, fresh}
-use Rattle.filter.specs.Uses.{opened, all-paths, serials, member, different, in-use, free}
+use Rattle.filter.specs.Uses.{opened, all-paths, serials, member, in-use}
 use Rattle.filter.specs.Calls.{Call, start, advance, weigh, resample, hold, give-back, finish}
 use Rattle.filter.specs.Refusals.{refusal}
-use Rattle.filter.specs.Steps.{born, births, all-longer, weight, path, parents-now, granted, settle, step}
-use Rattle.filter.specs.Replies.{issued-by, freed, answer, replied, reply, told-issued, told-freed}
-use Rattle.filter.specs.Sound.{Falling, Sound}
+use Rattle.filter.specs.Steps.{born, births, all-longer, weight, path, parents-now, granted, settle}
+use Rattle.filter.specs.Replies.{issued-by, freed, answer, replied, told-issued, told-freed}
+use Rattle.filter.specs.Sound.{Falling, Agree, All-agree, Sound}
 use Rattle.filter.specs.Theorems.{Every-step-keeps-soundness, Every-step-balances}
 use Rattle.filter.proofs.Alls.{all-split, all-counting, all-opened, all-closed}
-use Rattle.filter.proofs.Grants.{empty-now, level-not-empty, level-not-weighed, empty-not-weighed, weighed-not-empty, lawful-after, starts, advances, weighs, holds as held, resamples, count-parents, all-resampled}
+use Rattle.filter.proofs.Grants.{level-not-empty, level-not-weighed, empty-not-weighed, weighed-not-empty, lawful-after, starts, advances, weighs, holds as held, resamples, count-parents, all-resampled}
 use Rattle.filter.proofs.Serials.{Low, low-paths, low-serials, low-more, Among, among, in-use-among, in-use-grown, born-low, born-old, born-new, Begun, longer-low, longer-old, longer-new, longer-fall, longer-begun, longer-even, length-longer}
+use Rattle.filter.proofs.Agreements.{agree-beside, agree-among, births-agree, births-agree-old, all-longer-agree, all-longer-agree-old}
 
 module _ {S : Type 0} (m : Meaning S) (f : Filter S) (s : Sound f) where
   abbrev holds : List (Path-of S)
@@ -42,6 +39,18 @@ module _ {S : Type 0} (m : Meaning S) (f : Filter S) (s : Sound f) where
 
   begun : All Begun (f .paths) × All Begun holds
   begun = all-split Begun (f .paths) holds (s .paths-begun)
+
+  -- particles' paths and held ones agree, each with both
+  agreements : (All-agree (f .paths) × All (λ p. All (Agree p) holds) (f .paths)) × (All (λ p. All (Agree p) (f .paths)) holds × All-agree holds)
+  agreements =
+      let r = all-split (λ p. All (Agree p) (all-paths f)) (f .paths) holds (s .one-serial-one-node) in
+      ((left (f .paths) (r .0), right (f .paths) (r .0)), (left holds (r .1), right holds (r .1)))
+    where
+      left : (ps : List (Path-of S)) → All (λ p. All (Agree p) (all-paths f)) ps → All (λ p. All (Agree p) (f .paths)) ps
+      left ps h = all-weaker (λ p. All (Agree p) (all-paths f)) (λ p. All (Agree p) (f .paths)) (λ p k. all-split (Agree p) (f .paths) holds k .0) ps h
+
+      right : (ps : List (Path-of S)) → All (λ p. All (Agree p) (all-paths f)) ps → All (λ p. All (Agree p) holds) ps
+      right ps h = all-weaker (λ p. All (Agree p) (all-paths f)) (λ p. All (Agree p) holds) (λ p k. all-split (Agree p) (f .paths) holds k .1) ps h
 
   -- the old paths are among those of the filter that these calls leave
   pub weigh-among : (q place : ℕ) → Among f (granted m f (weigh q) place)
@@ -104,6 +113,9 @@ module _ {S : Type 0} (m : Meaning S) (f : Filter S) (s : Sound f) where
     below-among : All (λ x. x < f .issued) (serials (all-paths f′))
     below-among = low-serials (f .issued) (all-paths f′) (among (Low (f .issued)) f f′ a (low-paths (f .issued) (all-paths f) (s .serials-below-issued)))
 
+    agreeing-among : All-agree (all-paths f′)
+    agreeing-among = agree-among f f′ a (s .one-serial-one-node)
+
     begun-among : All Begun (all-paths f′)
     begun-among = among Begun f f′ a (s .paths-begun)
 
@@ -121,6 +133,7 @@ module _ {S : Type 0} (m : Meaning S) (f : Filter S) (s : Sound f) where
         supply-lawful = lawful-after (f .source) n (s .supply-lawful) (g .supplied);
         serials-fall = all-append Falling (births m f n) holds (all-map Falling (born m f) (counting 0 n) (all-counting (λ k. Falling (born m f k)) 0 n (λ i l u. tt))) (falls .1);
         serials-below-issued = low-serials (f .issued + n) (all-paths f′) (start-low n place);
+        one-serial-one-node = agree-beside (births m f n) holds (births-agree m f n) (births-agree-old m f n holds (lows .1)) (agreements .1 .1);
         paths-begun = all-append Begun (births m f n) holds (all-map Begun (born m f) (counting 0 n) (all-counting (λ k. Begun (born m f k)) 0 n (λ i l u. omega arith))) (begun .1);
         paths-as-long-as-round = all-map (λ p. length p ≡ 0 + 1) (born m f) (counting 0 n) (all-counting (λ k. length (born m f k) ≡ 0 + 1) 0 n (λ i l u. refl));
         sixteen-places = s .sixteen-places;
@@ -140,6 +153,9 @@ module _ {S : Type 0} (m : Meaning S) (f : Filter S) (s : Sound f) where
         supply-lawful = lawful-after (f .source) n (s .supply-lawful) (g .supplied);
         serials-fall = all-append Falling (all-longer m f c 0 (f .paths)) holds (longer-fall m f c 0 (f .paths) (falls .0) (lows .0)) (falls .1);
         serials-below-issued = low-serials (f .issued + n) (all-paths f′) (advance-low c place);
+        one-serial-one-node =
+            agree-beside (all-longer m f c 0 (f .paths)) holds (all-longer-agree m f c (f .paths) (lows .0) (agreements .0 .0))
+            (all-longer-agree-old m f c 0 (f .paths) holds (lows .1) (agreements .0 .1)) (agreements .1 .1);
         paths-begun = all-append Begun (all-longer m f c 0 (f .paths)) holds (longer-begun m f c 0 (f .paths) (begun .0)) (begun .1);
         paths-as-long-as-round = longer-even m f c 0 (f .round) (f .paths) (s .paths-as-long-as-round);
         sixteen-places = s .sixteen-places;
@@ -155,6 +171,7 @@ module _ {S : Type 0} (m : Meaning S) (f : Filter S) (s : Sound f) where
         supply-lawful = s .supply-lawful;
         serials-fall = fall-among f′ a;
         serials-below-issued = below-among f′ a;
+        one-serial-one-node = agreeing-among f′ a;
         paths-begun = begun-among f′ a;
         paths-as-long-as-round = s .paths-as-long-as-round;
         sixteen-places = s .sixteen-places;
@@ -171,6 +188,7 @@ module _ {S : Type 0} (m : Meaning S) (f : Filter S) (s : Sound f) where
         supply-lawful = lawful-after (f .source) 1 (s .supply-lawful) (g .supplied);
         serials-fall = fall-among f′ a;
         serials-below-issued = below-among f′ a;
+        one-serial-one-node = agreeing-among f′ a;
         paths-begun = begun-among f′ a;
         paths-as-long-as-round = all-resampled m f (λ p. length p ≡ f .round + 1) g (s .paths-as-long-as-round);
         sixteen-places = s .sixteen-places;
@@ -186,6 +204,7 @@ module _ {S : Type 0} (m : Meaning S) (f : Filter S) (s : Sound f) where
         supply-lawful = s .supply-lawful;
         serials-fall = fall-among f′ a;
         serials-below-issued = below-among f′ a;
+        one-serial-one-node = agreeing-among f′ a;
         paths-begun = begun-among f′ a;
         paths-as-long-as-round = s .paths-as-long-as-round;
         sixteen-places = length-set (f .places) place (Some (path f k)) ∙ s .sixteen-places;
@@ -201,6 +220,7 @@ module _ {S : Type 0} (m : Meaning S) (f : Filter S) (s : Sound f) where
         supply-lawful = s .supply-lawful;
         serials-fall = fall-among f′ a;
         serials-below-issued = below-among f′ a;
+        one-serial-one-node = agreeing-among f′ a;
         paths-begun = begun-among f′ a;
         paths-as-long-as-round = s .paths-as-long-as-round;
         sixteen-places = length-set (f .places) given None ∙ s .sixteen-places;
@@ -216,6 +236,7 @@ module _ {S : Type 0} (m : Meaning S) (f : Filter S) (s : Sound f) where
         supply-lawful = s .supply-lawful;
         serials-fall = fall-among f′ a;
         serials-below-issued = below-among f′ a;
+        one-serial-one-node = agreeing-among f′ a;
         paths-begun = begun-among f′ a;
         paths-as-long-as-round = tt;
         sixteen-places = s .sixteen-places;
@@ -247,6 +268,7 @@ fresh-sound brought stamp q l = record {
   supply-lawful = l;
   serials-fall = tt;
   serials-below-issued = tt;
+  one-serial-one-node = tt;
   paths-begun = tt;
   paths-as-long-as-round = tt;
   sixteen-places = refl;

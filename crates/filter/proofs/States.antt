@@ -12,7 +12,7 @@ use Rattle.refusals.specs.declared.Refusal.{Refusal}
 use Rattle.models.specs.Kinds.{Kind}
 use Rattle.models.specs.Meanings.{Meaning, Lawful}
 use Rattle.filter.specs.Filters.{Path-of, Filter}
-use Rattle.filter.specs.Uses.{opened, all-paths}
+use Rattle.filter.specs.Uses.{opened}
 use Rattle.filter.specs.Calls.{Call, start, advance, weigh, resample, hold, give-back, finish}
 use Rattle.filter.specs.Refusals.{refusal}
 use Rattle.filter.specs.Steps.{born, births, all-longer, granted, settle}

@@ -9,7 +9,7 @@ use Rattle.sources.specs.Supplies.{after}
 use Rattle.models.specs.Meanings.{Meaning}
 use Rattle.filter.specs.Filters.{Filter}
 use Rattle.filter.specs.Uses.{all-paths, in-use}
-use Rattle.filter.specs.Calls.{Call, resample}
+use Rattle.filter.specs.Calls.{resample}
 use Rattle.filter.specs.Steps.{parents-now}
 use Rattle.filter.specs.Replies.{Reply, refused, done}
 use Rattle.filter.specs.Runs.{Turn, all-issued, all-freed, all-drawn, reached}

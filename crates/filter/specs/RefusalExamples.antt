@@ -1,7 +1,6 @@
 -- Worked examples of refusals, and of their order. Assumes nothing.
 use mathlib.Core.Path.{_≡_}
-use mathlib.Core.List.{List, [], _∷_}
-use Prim.Native.Nat.{ℕ}
+use mathlib.Core.List.{[], _∷_}
 use lib.ListN.{replicate}
 use Rattle.std.specs.declared.option.Option.the-variants.{Some}
 use Rattle.refusals.specs.declared.Refusal.the-variants.{WrongPhase, OutOfRange, Unknown, NotHeld, NoPlaceLeft, NoNodesLeft, SourceDry, AllZero}

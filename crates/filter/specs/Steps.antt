@@ -11,7 +11,7 @@ use Rattle.sources.specs.Supplies.{Supply, after}
 use Rattle.models.specs.Meanings.{Meaning}
 use Rattle.filter.specs.declared.phase.Phase.{Phase}
 use Rattle.filter.specs.declared.phase.Phase.the-variants.{Empty, Level, Weighed}
-use Rattle.filter.specs.Filters.{Pair, Path-of, Filter}
+use Rattle.filter.specs.Filters.{Path-of, Filter}
 use Rattle.filter.specs.Calls.{Call, start, advance, weigh, resample, hold, give-back, finish}
 use Rattle.filter.specs.Refusals.{refusal}
 

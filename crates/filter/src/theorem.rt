@@ -1,11 +1,18 @@
 // Statements about the definitions, each for every type of states.
 ghost use Rattle.filter.specs.Examples.{Worked-run};
 ghost use Rattle.filter.specs.RefusalExamples.{Worked-refusals};
-ghost use Rattle.filter.specs.Theorems.{Every-call-has-a-reply, Every-step-keeps-soundness, Every-step-balances, Every-step-keeps-states, Every-run-is-sound, Every-run-keeps-states, Every-run-has-its-genealogy};
+ghost use Rattle.filter.specs.Theorems.{Every-call-has-a-reply, A-refused-call-changes-nothing, No-path-is-longer-than-the-nodes-in-use, Every-step-keeps-soundness, Every-step-balances, Every-step-keeps-states, Every-run-is-sound, Every-run-keeps-states, Every-run-has-its-genealogy};
 
 // Every call can be told of, so there are runs of any calls.
 pub fn every_call_has_a_reply<S>() -> bool
     ensures { λ _. ⌜ Every-call-has-a-reply S ⌝ }
+{
+    true
+}
+
+// A refused call leaves the filter as it was, and tells nothing but the refusal.
+pub fn a_refused_call_changes_nothing<S>() -> bool
+    ensures { λ _. ⌜ A-refused-call-changes-nothing S ⌝ }
 {
     true
 }
@@ -27,6 +34,13 @@ pub fn every_step_balances<S>() -> bool
 // Under a lawful model, a call brings only states onto paths.
 pub fn every_step_keeps_states<S>() -> bool
     ensures { λ _. ⌜ Every-step-keeps-states S ⌝ }
+{
+    true
+}
+
+// In a sound filter no path is longer than the nodes in use.
+pub fn no_path_is_longer_than_the_nodes_in_use<S>() -> bool
+    ensures { λ _. ⌜ No-path-is-longer-than-the-nodes-in-use S ⌝ }
 {
     true
 }
