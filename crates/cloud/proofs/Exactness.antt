@@ -1,3 +1,4 @@
+-- The nodes in use are those on a path.
 use Prim.Native.Nat.{ℕ, _+_, _-_, _≤_, _<_, suc, zero}
 use mathlib.Core.Path.{_≡_, refl, sym, ap, subst, _∙_}
 use mathlib.Core.Logic.{_≢_, ⊎-elim}
@@ -12,7 +13,8 @@ use Rattle.std.proofs.shelf.Tests.{cases-eq, cases-lt}
 use Rattle.cloud.specs.Links.{Link, no-link, link-at}
 use Rattle.cloud.specs.Trees.{is-node, is-named, occurrences, is-used, is-child, Chain, Tree}
 use Rattle.cloud.specs.Exactness.{On-path, Trees-are-exact}
-use Rattle.cloud.proofs.Trees.{is-node-same, is-node-other, is-child-used, is-child-free, chain-head, named-used}
+use Rattle.cloud.proofs.Tallies.{is-node-same, is-node-other, is-child-used, is-child-free}
+use Rattle.cloud.proofs.Trees.{chain-head, named-used}
 
 -- a sum above 0 has an element above 0
 pub sum-above-0 : (f : Link → ℕ) (ls : List Link) → 0 < sumBy f ls → (m : ℕ) × (m < length ls) × (0 < f (link-at ls m))
@@ -28,14 +30,14 @@ is-named-some None n h = absurd (omega arith)
 is-named-some (Some p) n h = ⊎-elim (λ e. ap Some (sym e)) (λ ne. absurd (omega (arith, is-node-other n p ne))) (cases-eq n p)
 
 module _ (ls : List Link) (head : Option ℕ) (free : ℕ) (w serial : ℕ → ℕ) (issued : ℕ) (t : Tree ls head free w serial issued) where
-  -- the node before one in use is in use
+  -- the parent of a node in use is in use
   pub parent-used : (m q : ℕ) → m < length ls → 0 < link-at ls m .count → link-at ls m .parent ≡ Some q → (q < length ls) × (0 < link-at ls q .count) × (serial q < serial m)
   parent-used m q l h e =
       let u = t .older m q l h e in
       let k : is-child q (link-at ls m) ≡ 1 = is-child-used q (link-at ls m) h ∙ ap (λ o. is-named o q) e ∙ is-node-same q in
       (u .0, omega (arith, k, getD-le-sumBy (is-child q) ls m no-link l, t .counts q (u .0)), u .1)
 
-  -- from each node in use the links lead to an end
+  -- from each node in use the parents lead to an end
   pub path-of : (fuel : ℕ) (o : Option ℕ) → ((q : ℕ) → o ≡ Some q → (q < length ls) × (0 < link-at ls q .count) × (serial q < fuel)) → (p : List ℕ) × Chain ls o p
   path-of fuel None k = ([], refl)
   path-of zero (Some q) k = absurd (omega (arith, k q refl .2))
@@ -53,7 +55,7 @@ module _ (ls : List Link) (head : Option ℕ) (free : ℕ) (w serial : ℕ → �
       (λ ne. chain-used (link-at ls f .parent) fs n (λ r b. parent-used f r l (live f e) b .1) c (omega (arith, is-node-other n f ne)))
       (cases-eq n f)
 
-  -- a path that has m has the node before m
+  -- a path that has m has the parent of m
   parent-on-path : (o : Option ℕ) (p : List ℕ) (m n : ℕ) → Chain ls o p → 0 < occurrences m p → link-at ls m .parent ≡ Some n → 0 < occurrences n p
   parent-on-path o [] m n c h b = absurd (omega arith)
   parent-on-path o (f ∷ fs) m n (e, l, c) h b =

@@ -1,3 +1,4 @@
+-- As many different serials as nodes in use.
 use Prim.Native.Nat.{ℕ, zero, suc, _+_, _-_, _≤_, _<_}
 use mathlib.Core.Path.{_≡_, refl, sym, ap, subst, _∙_}
 use mathlib.Core.Logic.{_≢_, ⊎-elim}
@@ -13,7 +14,7 @@ use Rattle.std.proofs.shelf.Tests.{cases-eq, cases-lt, eq-eqb, ne-eqb}
 use Rattle.cloud.specs.Links.{Link, link-at}
 use Rattle.cloud.specs.Trees.{Tree, is-used}
 use Rattle.cloud.specs.Serials.{total, sign, different, Serials-count-nodes}
-use Rattle.cloud.proofs.Trees.{is-used-free, is-used-used}
+use Rattle.cloud.proofs.Tallies.{is-used-free, is-used-used}
 
 pub sign-zero : (n : ℕ) → n ≡ 0 → sign n ≡ 0
 unfolding sign

@@ -1,54 +1,22 @@
-use Prim.Native.Nat.{ℕ, _+_, _-_, _≤_, _<_, suc, zero}
+-- What the operations do to a tree.
+use Prim.Native.Nat.{ℕ, _+_, _-_, _≤_, _<_, suc}
 use mathlib.Core.Path.{_≡_, refl, sym, ap, subst, _∙_}
-use mathlib.Core.Logic.{_≢_, inl, inr, ⊎-elim, ∥∥₁-elim}
+use mathlib.Core.Logic.{_≢_, ⊎-elim, ∥∥₁-elim}
 use mathlib.Core.HLevel.{⊥-prop}
-use mathlib.Core.Bool.{Bool, true, false, cond}
-use mathlib.Core.List.{List, [], _∷_, map}
+use mathlib.Core.List.{List, [], _∷_}
 use native.Mathlib.Omega.{arith}
-use native.Mathlib.Numerals.{add-one}
-use lib.Dec.{eqb}
-use lib.ListN.{length, getD, set}
+use lib.ListN.{length, set}
 use Rattle.std.specs.declared.option.Option.{Option}
 use Rattle.std.specs.declared.option.Option.the-variants.{Some, None}
 use Rattle.std.specs.shelf.Lists.{sumBy}
-use Rattle.std.proofs.shelf.Sums.{sumBy-set, getD-le-sumBy, sumBy-le}
-use Rattle.std.proofs.shelf.Elements.{all-from-getD}
+use Rattle.std.proofs.shelf.Sums.{sumBy-set, getD-le-sumBy}
 use native.Mathlib.Bridge.{le-prop}
-use Rattle.std.proofs.shelf.Lists.{length-map, map-set, getD-map, set-getD, set-set, length-set, getD-set-same, getD-set-other}
-use Rattle.std.proofs.shelf.Tests.{eq-eqb, ne-eqb, cases-eq, cases-lt}
-use Rattle.cloud.specs.declared.node.Node.{Node}
-use Rattle.cloud.specs.Links.{links, link, linked, states, Link, no-link, link-at, Kept}
-use Rattle.cloud.specs.Trees.{how-many, is-node, is-named, occurrences, is-used, is-child, Chain, Tree, with-serial, Some-tree-from, Some-tree}
-
-pub is-node-same : (n : ℕ) → is-node n n ≡ 1
-unfolding is-node
-is-node-same n = rw (eq-eqb n n refl)
-
-pub is-node-other : (n i : ℕ) → n ≢ i → is-node n i ≡ 0
-unfolding is-node
-is-node-other n i h = rw (ne-eqb n i h)
-
-pub is-used-free : (l : Link) → l .count ≡ 0 → is-used l ≡ 0
-unfolding is-used
-is-used-free l h = rw (eq-eqb (l .count) 0 h)
-
-pub is-used-used : (l : Link) → 0 < l .count → is-used l ≡ 1
-unfolding is-used
-is-used-used l h = rw (ne-eqb (l .count) 0 (λ e. omega arith))
-
-pub is-child-free : (n : ℕ) (l : Link) → l .count ≡ 0 → is-child n l ≡ 0
-unfolding is-child
-is-child-free n l h = rw (eq-eqb (l .count) 0 h)
-
-pub is-child-used : (n : ℕ) (l : Link) → 0 < l .count → is-child n l ≡ is-named (l .parent) n
-unfolding is-child
-is-child-used n l h = rw (ne-eqb (l .count) 0 (λ e. omega arith))
-
-pub link-at-same : (ls : List Link) (i : ℕ) (y : Link) → i < length ls → link-at (set ls i y) i ≡ y
-link-at-same ls i y h = getD-set-same ls i y no-link h
-
-pub link-at-other : (ls : List Link) (i n : ℕ) (y : Link) → n ≢ i → link-at (set ls i y) n ≡ link-at ls n
-link-at-other ls i n y h = getD-set-other ls i n y no-link h
+use Rattle.std.proofs.shelf.Lists.{length-set}
+use Rattle.std.proofs.shelf.Tests.{cases-eq, cases-lt}
+use Rattle.cloud.specs.Links.{link, linked, Link, no-link, link-at}
+use Rattle.cloud.specs.Trees.{is-node, is-named, occurrences, is-used, is-child, Chain, Tree, with-serial, Some-tree}
+use Rattle.cloud.proofs.Tallies.{is-node-same, is-node-other, is-used-free, is-used-used, is-child-free, is-child-used, with-serial-same, with-serial-other, free-from-is-used, is-named-other}
+use Rattle.cloud.proofs.Links.{link-at-same, link-at-other, link-at-cases}
 
 -- a write at a node that is not listed leaves the chain
 pub chain-set : (ls : List Link) (h : Option ℕ) (fs : List ℕ) (i : ℕ) (y : Link) → occurrences i fs ≡ 0 → Chain ls h fs → Chain (set ls i y) h fs
@@ -58,15 +26,7 @@ chain-set ls h (f ∷ fs) i y o (e, l, c) =
     let o′ : occurrences i fs ≡ 0 = omega arith in
     (e, simp length-set l, rw (link-at-other ls i f y ne) (chain-set ls (link-at ls f .parent) fs i y o′ c))
 
--- what stands at n after a write at i, by cases
-pub link-at-cases : (ls : List Link) (i : ℕ) (y : Link) (n : ℕ) → i < length ls → (P : Link → Type 0) → (n ≡ i → P y) → (n ≢ i → P (link-at ls n)) → P (link-at (set ls i y) n)
-link-at-cases ls i y n h P a b =
-    ⊎-elim
-    (λ e. subst (λ m. P (link-at (set ls i y) m)) (sym e) (subst P (sym (link-at-same ls i y h)) (a e)))
-    (λ ne. subst P (sym (link-at-other ls i n y ne)) (b ne))
-    (cases-eq n i)
-
--- another count, above 0 as it was: what the paths say changes at i alone
+-- another count above 0: what names nodes changes at i alone
 pub tree-recount : (ls : List Link) (head : Option ℕ) (free : ℕ) (w w′ serial : ℕ → ℕ) (issued i c : ℕ) → i < length ls → 0 < link-at ls i .count → 0 < c → ((n : ℕ) → n ≢ i → w′ n ≡ w n) → c + w i ≡ link-at ls i .count + w′ i → Tree ls head free w serial issued → Tree (set ls i (record { count = c; parent = link-at ls i .parent })) head free w′ serial issued
 tree-recount ls head free w w′ serial issued i c h pos pos′ rest release-here t =
     let y : Link = record { count = c; parent = link-at ls i .parent } in
@@ -95,21 +55,6 @@ tree-recount ls head free w w′ serial issued i c h pos pos′ rest release-her
       apart = λ m n l l2 q q2 e. let l′ : m < length ls = omega arith in let l2′ : n < length ls = omega arith in t .apart m n l′ l2′ (was m q) (was n q2) e;
     }
 
-pub with-serial-same : (serial : ℕ → ℕ) (f k : ℕ) → with-serial serial f k f ≡ k
-unfolding with-serial
-with-serial-same serial f k = rw (eq-eqb f f refl)
-
-pub with-serial-other : (serial : ℕ → ℕ) (f k n : ℕ) → n ≢ f → with-serial serial f k n ≡ serial n
-unfolding with-serial
-with-serial-other serial f k n h = rw (ne-eqb n f h)
-
-pub free-from-is-used : (l : Link) → is-used l ≡ 0 → l .count ≡ 0
-free-from-is-used l h = ⊎-elim (λ e. e) (λ ne. let p : 0 < l .count = omega arith in omega (arith, is-used-used l p)) (cases-eq (l .count) 0)
-
-pub is-named-other : (b : Option ℕ) (n : ℕ) → ((p : ℕ) → b ≡ Some p → n ≢ p) → is-named b n ≡ 0
-is-named-other None n h = refl
-is-named-other (Some p) n h = is-node-other n p (h p refl)
-
 -- a free list that begins with f
 pub chain-head : (ls : List Link) (f : ℕ) (fs : List ℕ) → Chain ls (Some f) fs → (gs : List ℕ) × (fs ≡ f ∷ gs) × (f < length ls) × Chain ls (link-at ls f .parent) gs
 chain-head ls f [] c = let z : _≡_ {A = ℕ} 0 1 = cc in absurd (omega arith)
@@ -117,7 +62,7 @@ chain-head ls f (g ∷ gs) (e, l, c) =
     let q : g ≡ f = cc in
     (gs, ap (λ j. j ∷ gs) q, subst (λ j. j < length ls) q l, subst (λ j. Chain ls (link-at ls j .parent) gs) q c)
 
--- the first free node taken: the path that ended at the node before, if any, ends at the new one
+-- the first free node taken: what named the parent, if there is one, names the new node
 pub tree-issue : (ls : List Link) (f free : ℕ) (b : Option ℕ) (w serial : ℕ → ℕ) (issued : ℕ) → Tree ls (Some f) free (λ n. w n + is-named b n) serial issued → Tree (set ls f (record { count = 1; parent = b })) (link-at ls f .parent) (free - 1) (λ n. w n + is-node n f) (with-serial serial f issued) (issued + 1)
 tree-issue ls f free b w serial issued t =
     let y : Link = record { count = 1; parent = b } in
@@ -193,7 +138,7 @@ tree-issue ls f free b w serial issued t =
           (cases-eq m f);
     }
 
--- a node with one path on it and nothing else, freed: the path ends at the node before, if any
+-- a node on which one thing hangs, which names it, freed: its parent, if there is one, is named instead
 pub tree-free : (ls : List Link) (head : Option ℕ) (i free : ℕ) (w serial : ℕ → ℕ) (issued : ℕ) → i < length ls → link-at ls i .count ≡ 1 → Tree ls head free (λ n. w n + is-node n i) serial issued → Tree (set ls i (record { count = 0; parent = head })) (Some i) (free + 1) (λ n. w n + is-named (link-at ls i .parent) n) serial issued
 tree-free ls head i free w serial issued h c1 t =
     let y : Link = record { count = 0; parent = head } in
@@ -225,62 +170,7 @@ tree-free ls head i free w serial issued h c1 t =
       apart = λ m n l l2 q q2 e. let l′ : m < length ls = omega arith in let l2′ : n < length ls = omega arith in t .apart m n l′ l2′ (old m q) (old n q2) e;
     }
 
--- what the code reads and writes, by the links
-pub link-at-links : {S : Type 0} (xs : List (Node S)) (i : ℕ) (d : Node S) → i < length xs → link-at (links xs) i ≡ link (getD xs i d)
-link-at-links xs i d h = getD-map link xs i d no-link h
-
-pub links-set : {S : Type 0} (xs : List (Node S)) (i : ℕ) (y : Node S) → links (set xs i y) ≡ set (links xs) i (link y)
-links-set xs i y = map-set link xs i y
-
--- a write that leaves the state
-pub states-kept : {S : Type 0} (xs : List (Node S)) (i : ℕ) (d y : Node S) → y .state ≡ getD xs i d .state → i < length xs → states (set xs i y) ≡ states xs
-states-kept xs i d y e h =
-    map-set (λ x. x .state) xs i y ∙ ap (set (states xs) i) (e ∙ sym (getD-map (λ x. x .state) xs i d (d .state) h)) ∙ set-getD (states xs) i (d .state)
-
--- a write that leaves the link
-pub links-kept : {S : Type 0} (xs : List (Node S)) (i : ℕ) (d y : Node S) → link y ≡ link (getD xs i d) → i < length xs → links (set xs i y) ≡ links xs
-links-kept xs i d y e h = links-set xs i y ∙ ap (set (links xs) i) (e ∙ sym (link-at-links xs i d h)) ∙ set-getD (links xs) i no-link
-
-pub same-link : {a b : ℕ} {o p : Option ℕ} → a ≡ b → o ≡ p → _≡_ {A = Link} (record { count = a; parent = o }) (record { count = b; parent = p })
-same-link e f = λ j. record { count = e j; parent = f j }
-
-module _ {S : Type 0} (xs : List (Node S)) (i : ℕ) (d e y : Node S) (h : i < length xs) where
-  pub count-read : link-at (links xs) i .count ≡ getD xs i d .count
-  count-read = ap (λ l. l .count) (link-at-links xs i d h)
-
-  pub parent-read : link-at (links xs) i .parent ≡ getD xs i e .parent
-  parent-read = ap (λ l. l .parent) (link-at-links xs i e h)
-
-  pub inside-links : i < length (links xs)
-  inside-links = omega (arith, length-map xs (link {S = S}))
-
-  -- the links after a write of a node
-  pub links-write : (c : ℕ) (b : Option ℕ) → y .count ≡ c → y .parent ≡ b → links (set xs i y) ≡ set (links xs) i (record { count = c; parent = b })
-  links-write c b p q = links-set xs i y ∙ ap (set (links xs) i) (same-link p q)
-
--- two fields of a node written, one after the other
-module _ {S : Type 0} (xs : List (Node S)) (i : ℕ) (d d2 : Node S) (c : ℕ) (b : Option ℕ) (h : i < length xs) where
-  abbrev pub first-write : Node S
-  first-write = record { state = getD xs i d .state; count = c; parent = getD xs i d .parent }
-
-  abbrev pub second-write : Node S
-  second-write = record { state = getD (set xs i first-write) i d2 .state; count = getD (set xs i first-write) i d2 .count; parent = b }
-
-  there : getD (set xs i first-write) i d2 ≡ first-write
-  there = getD-set-same xs i first-write d2 h
-
-  pub relinked : links (set (set xs i first-write) i second-write) ≡ set (links xs) i (linked c b)
-  unfolding there
-  relinked = ap links (set-set xs i first-write second-write) ∙ links-set xs i second-write ∙ ap (set (links xs) i) (same-link (ap (λ x. x .count) there) refl)
-
-  pub relinked-states : states (set (set xs i first-write) i second-write) ≡ states xs
-  unfolding there
-  relinked-states = ap states (set-set xs i first-write second-write) ∙ states-kept xs i d second-write (ap (λ x. x .state) there) h
-
-pub length-links : {S : Type 0} (xs : List (Node S)) → length (links xs) ≡ length xs
-length-links xs = length-map xs link
-
--- the laws, at what the leaves give
+-- the same, of what the code reads and writes
 pub tree-retained : (ls ms : List Link) (head : Option ℕ) (free : ℕ) (w serial : ℕ → ℕ) (issued i c : ℕ) (b : Option ℕ) → i < length ls → 0 < link-at ls i .count → c ≡ link-at ls i .count → b ≡ link-at ls i .parent → ms ≡ set ls i (linked (c + 1) b) → Tree ls head free w serial issued → Tree ms head free (λ n. w n + is-node n i) serial issued
 tree-retained ls ms head free w serial issued i c b h pos p q e t =
     let r = tree-recount ls head free w (λ n. w n + is-node n i) serial issued i (c + 1) h pos (omega arith) (λ n ne. omega (arith, is-node-other n i ne)) (omega (arith, is-node-same i)) t in
@@ -297,24 +187,13 @@ tree-freed ls ms head free w serial issued i c b h one′ p q e t =
     let r = tree-free ls head i free w serial issued h (omega arith) t in
     subst (λ o. Tree ms (Some i) (free + 1) (λ n. w n + is-named o n) serial issued) (sym q) (subst (λ us. Tree us (Some i) (free + 1) (λ n. w n + is-named (link-at ls i .parent) n) serial issued) (sym e) r)
 
--- how many are in use, after a write at one
-pub used-kept : (ls ms : List Link) (i c : ℕ) (b : Option ℕ) → i < length ls → 0 < link-at ls i .count → 0 < c → ms ≡ set ls i (linked c b) → sumBy is-used ms + 0 ≡ sumBy is-used ls
-used-kept ls ms i c b h pos pos′ e = let s = sumBy-set is-used ls i (linked c b) no-link h in omega (arith, s, ap (sumBy is-used) e, is-used-used (link-at ls i) pos, is-used-used (linked c b) pos′)
-
-pub used-less : (ls ms : List Link) (i : ℕ) (b : Option ℕ) → i < length ls → 0 < link-at ls i .count → ms ≡ set ls i (linked 0 b) → sumBy is-used ms + 1 ≡ sumBy is-used ls
-used-less ls ms i b h pos e = let s = sumBy-set is-used ls i (linked 0 b) no-link h in omega (arith, s, ap (sumBy is-used) e, is-used-used (link-at ls i) pos, is-used-free (linked 0 b) refl)
-
-pub how-many-le : (o : Option ℕ) → how-many o ≤ 1
-how-many-le None = omega arith
-how-many-le (Some p) = omega arith
-
 pub tree-issued : (ls ms : List Link) (f free : ℕ) (b next : Option ℕ) (w serial : ℕ → ℕ) (issued : ℕ) → next ≡ link-at ls f .parent → ms ≡ set ls f (linked 1 b) → Tree ls (Some f) free (λ n. w n + is-named b n) serial issued → Tree ms next (free - 1) (λ n. w n + is-node n f) (with-serial serial f issued) (issued + 1)
 tree-issued ls ms f free b next w serial issued q e t =
     let r = tree-issue ls f free b w serial issued t in
     subst (λ o. Tree ms o (free - 1) (λ n. w n + is-node n f) (with-serial serial f issued) (issued + 1)) (sym q)
     (subst (λ us. Tree us (link-at ls f .parent) (free - 1) (λ n. w n + is-node n f) (with-serial serial f issued) (issued + 1)) (sym e) r)
 
--- the same paths, said otherwise
+-- the same names, said otherwise
 pub tree-same : (ls : List Link) (head : Option ℕ) (free : ℕ) (w w′ serial : ℕ → ℕ) (issued : ℕ) → ((n : ℕ) → w′ n ≡ w n) → Tree ls head free w serial issued → Tree ls head free w′ serial issued
 tree-same ls head free w w′ serial issued e t = record {
   few = t .few;
@@ -330,100 +209,11 @@ tree-same ls head free w w′ serial issued e t = record {
   apart = t .apart;
 }
 
--- where a path ends there is a node in use
+-- a node that is named is in use
 pub named-used : (ls : List Link) (head : Option ℕ) (free : ℕ) (w serial : ℕ → ℕ) (issued i : ℕ) → Tree ls head free w serial issued → 0 < w i → (i < length ls) × (0 < link-at ls i .count)
 named-used ls head free w serial issued i t h =
     let l : i < length ls = ⊎-elim (λ l. l) (λ l. absurd (omega (arith, t .inside i l))) (cases-lt i (length ls)) in
     (l, omega (arith, t .counts i l))
-
-module _ (ls ms : List Link) (head first cur : Option ℕ) (node freed : ℕ) (inv : (free : ℕ) (w serial : ℕ → ℕ) (issued : ℕ) → Tree ls head free (λ n. w n + is-node n node) serial issued → Tree ms first (free + freed) (λ n. w n + is-named cur n) serial issued) where
-  release-here : (j free : ℕ) (w serial : ℕ → ℕ) (issued : ℕ) → cur ≡ Some j → Tree ls head free (λ n. w n + is-node n node) serial issued → Tree ms first (free + freed) (λ n. w n + is-node n j) serial issued
-  release-here j free w serial issued e t = subst (λ o. Tree ms first (free + freed) (λ n. w n + is-named o n) serial issued) e (inv free w serial issued t)
-
-  pub release-inside : (j : ℕ) → cur ≡ Some j → Some-tree-from ls head (Some node) → j < length ms
-  release-inside j e h = ∥∥₁-elim h le-prop (λ (free, w, serial, issued, t). named-used ms first (free + freed) (λ n. w n + is-node n j) serial issued j (release-here j free w serial issued e t) (omega (arith, is-node-same j)) .0)
-
-  pub release-used : (j : ℕ) → cur ≡ Some j → Some-tree-from ls head (Some node) → 0 < link-at ms j .count
-  release-used j e h = ∥∥₁-elim h le-prop (λ (free, w, serial, issued, t). named-used ms first (free + freed) (λ n. w n + is-node n j) serial issued j (release-here j free w serial issued e t) (omega (arith, is-node-same j)) .1)
-
-  pub release-again : (ns : List Link) (head′ next : Option ℕ) (j more : ℕ) → cur ≡ Some j → ((free : ℕ) (w serial : ℕ → ℕ) (issued : ℕ) → Tree ms first free (λ n. w n + is-node n j) serial issued → Tree ns head′ (free + more) (λ n. w n + is-named next n) serial issued) → (free : ℕ) (w serial : ℕ → ℕ) (issued : ℕ) → Tree ls head free (λ n. w n + is-node n node) serial issued → Tree ns head′ (free + (freed + more)) (λ n. w n + is-named next n) serial issued
-  release-again ns head′ next j more e step free w serial issued t =
-      let q : (free + freed) + more ≡ free + (freed + more) = omega arith in
-      subst (λ v. Tree ns head′ v (λ n. w n + is-named next n) serial issued) q (step (free + freed) w serial issued (release-here j free w serial issued e t))
-
-  pub release-ends : cur ≡ None → (free : ℕ) (w serial : ℕ → ℕ) (issued : ℕ) → Tree ls head free (λ n. w n + is-node n node) serial issued → Tree ms first (free + freed) w serial issued
-  release-ends e free w serial issued t =
-      tree-same ms first (free + freed) (λ n. w n + 0) w serial issued (λ n. omega arith) (subst (λ o. Tree ms first (free + freed) (λ n. w n + is-named o n) serial issued) e (inv free w serial issued t))
-
-is-used-le : (l : Link) → is-used l ≤ 1
-is-used-le l = ⊎-elim (λ e. omega (arith, is-used-free l e)) (λ ne. let p : 0 < l .count = omega arith in omega (arith, is-used-used l p)) (cases-eq (l .count) 0)
-
--- no more are in use than there are
-pub used-le : (ls : List Link) → sumBy is-used ls ≤ length ls
-used-le ls = let b = sumBy-le is-used 1 ls (all-from-getD (λ l. is-used l ≤ 1) ls no-link (λ i h. is-used-le (getD ls i no-link))) in omega arith
-
--- n - 1 down to 0
-abbrev pub numbers-down : ℕ → List ℕ
-numbers-down zero = []
-numbers-down (suc n) = n ∷ numbers-down n
-
-pub occurrences-above : (m n : ℕ) → m ≤ n → occurrences n (numbers-down m) ≡ 0
-occurrences-above zero n h = refl
-occurrences-above (suc m) n h = let ne : n ≢ m = omega arith in omega (arith, is-node-other n m ne, occurrences-above m n (omega arith))
-
-pub occurrences-below : (m n : ℕ) → n < m → occurrences n (numbers-down m) ≡ 1
-occurrences-below zero n h = absurd (omega arith)
-occurrences-below (suc m) n h =
-    ⊎-elim
-    (λ e. let s : is-node n m ≡ 1 = subst (λ k. is-node n k ≡ 1) e (is-node-same n) in omega (arith, s, occurrences-above m n (omega arith)))
-    (λ ne. omega (arith, is-node-other n m ne, occurrences-below m n (omega arith)))
-    (cases-eq n m)
-
-pub length-numbers-down : (m : ℕ) → length (numbers-down m) ≡ m
-length-numbers-down zero = refl
-length-numbers-down (suc m) = ap suc (length-numbers-down m)
-
--- one node more made free
-pub All-free : List Link → Option ℕ → ℕ → Type 0
-All-free ls head i = Chain ls head (numbers-down i) × ((k : ℕ) → k < i → link-at ls k .count ≡ 0)
-
-pub all-free-more : (ls ms : List Link) (head : Option ℕ) (i : ℕ) → i < length ls → ms ≡ set ls i (linked 0 head) → All-free ls head i → All-free ms (Some i) (i + 1)
-unfolding All-free
-all-free-more ls ms head i h e f =
-    let y : Link = linked 0 head in
-    let len : length (set ls i y) ≡ length ls = length-set ls i y in
-    let ch : Chain (set ls i y) (Some i) (numbers-down (suc i)) = (refl, omega arith, subst (λ x. Chain (set ls i y) (x .parent) (numbers-down i)) (sym (link-at-same ls i y h)) (chain-set ls head (numbers-down i) i y (occurrences-above i i (omega arith)) (f .0))) in
-    let all : (k : ℕ) → k < i + 1 → link-at (set ls i y) k .count ≡ 0
-    = λ k l. link-at-cases ls i y k h (λ x. x .count ≡ 0) (λ _. refl) (λ ne. f .1 k (omega arith)) in
-    subst (λ us. Chain us (Some i) (numbers-down (i + 1)) × ((k : ℕ) → k < i + 1 → link-at us k .count ≡ 0)) (sym e) (rw add-one ch, all)
-
-all-zero : (f : Link → ℕ) (ls : List Link) → ((i : ℕ) → i < length ls → f (link-at ls i) ≡ 0) → sumBy f ls ≡ 0
-all-zero f ls h = let b = sumBy-le f 0 ls (all-from-getD (λ l. f l ≤ 0) ls no-link (λ i l. omega (arith, h i l))) in omega arith
-
-pub all-free-tree : (ls : List Link) (head : Option ℕ) (n : ℕ) (serial : ℕ → ℕ) → length ls ≡ n → n ≤ 65536 → All-free ls head n → Tree ls head n (λ _. 0) serial 0
-unfolding All-free
-all-free-tree ls head n serial e small f =
-    let dead : (k : ℕ) → k < length ls → link-at ls k .count ≡ 0 = λ k l. f .1 k (omega arith) in
-    record {
-      few = omega arith;
-      free-list = numbers-down n;
-      chain = f .0;
-      size = length-numbers-down n;
-      listed = λ k l. let a = is-used-free (link-at ls k) (dead k l) in let o = occurrences-below n k (omega arith) in omega (arith, a, o);
-      whole = let z = all-zero is-used ls (λ k l. is-used-free (link-at ls k) (dead k l)) in omega (arith, z);
-      counts = λ k l. let z = all-zero (is-child k) ls (λ j m. is-child-free k (link-at ls j) (dead j m)) in omega (arith, z, dead k l);
-      inside = λ k l. refl;
-      older = λ m p l q b. absurd (omega (arith, dead m l));
-      past = λ m l q. absurd (omega (arith, dead m l));
-      apart = λ m k l l2 q q2 b. absurd (omega (arith, dead m l));
-    }
-
-pub all-free-none : (ls : List Link) → All-free ls None 0
-unfolding All-free
-all-free-none ls = (refl, λ k l. absurd (omega arith))
-
-pub some-tree-few : (ls : List Link) (head o : Option ℕ) → Some-tree-from ls head o → length ls ≤ 65536
-some-tree-few ls head o h = ∥∥₁-elim h le-prop (λ (free, w, serial, issued, t). t .few)
 
 pub no-head : (ls : List Link) (free : ℕ) (w serial : ℕ → ℕ) (issued : ℕ) → Tree ls None free w serial issued → free ≡ 0
 no-head ls free w serial issued t = sym (t .size) ∙ ap length (nil ls (t .free-list) (t .chain))
@@ -451,13 +241,3 @@ some-tree-head-free ls head free f h e = ∥∥₁-elim h le-prop (λ (w, serial
 
 pub free-le : (ls : List Link) (head : Option ℕ) (free : ℕ) (w serial : ℕ → ℕ) (issued : ℕ) → Tree ls head free w serial issued → free ≤ 65536
 free-le ls head free w serial issued t = omega (arith, t .whole, t .few)
-
-pub kept-refl : (ls : List Link) → Kept ls ls
-kept-refl ls n h = (h, refl)
-
-pub kept-trans : (ls ms ns : List Link) → Kept ls ms → Kept ms ns → Kept ls ns
-kept-trans ls ms ns a b n h = let r = b n h in let q = a n (r .0) in (q .0, r .1 ∙ q .1)
-
-pub kept-set : (ls ms : List Link) (i c : ℕ) (b : Option ℕ) → i < length ls → ms ≡ set ls i (linked c b) → 0 < link-at ls i .count → (0 < c → b ≡ link-at ls i .parent) → Kept ls ms
-kept-set ls ms i c b h e pos q =
-    subst (Kept ls) (sym e) (λ n. link-at-cases ls i (linked c b) n h (λ x. 0 < x .count → (0 < link-at ls n .count) × (x .parent ≡ link-at ls n .parent)) (λ en l. subst (λ j. (0 < link-at ls j .count) × (b ≡ link-at ls j .parent)) (sym en) (pos, q l)) (λ _ l. (l, refl)))

@@ -1,5 +1,5 @@
 -- A node's link, which is its parent and its count, apart from its state. Assumes nothing.
-use Prim.Native.Nat.{ℕ, _<_}
+use Prim.Native.Nat.{ℕ, _+_, _<_}
 use mathlib.Core.Path.{_≡_}
 use mathlib.Core.List.{List, map}
 use lib.ListN.{getD}
@@ -15,6 +15,10 @@ pub record Link : Type 0 where
 
 abbrev pub linked : ℕ → Option ℕ → Link
 linked c p = record { count = c; parent = p }
+
+-- one thing more hangs on the node
+abbrev pub raised : Link → Link
+raised l = linked (l .count + 1) (l .parent)
 
 abbrev pub link : {S : Type 0} → Node S → Link
 link x = record { count = x .count; parent = x .parent }

@@ -4,7 +4,7 @@ ghost use Prim.Native.Nat.{ℕ, _+_, _-_, _^_, _<_, _≤_, min};
 ghost use denote.Ref.{now};
 ghost use lib.ListN.{length, set};
 ghost use Rattle.std.specs.declared.option.Option.the-variants.{Some, None};
-ghost use Rattle.cloud.specs.Links.{link-at, linked, Kept};
+ghost use Rattle.cloud.specs.Links.{link-at, linked, raised, Kept};
 ghost use Rattle.cloud.specs.Trees.{Tree, is-node, is-named, with-serial};
 ghost use Rattle.cloud.specs.Forests.{links-of, states-of, Is-tree, Has-tree, Has-tree-at};
 use crate::node::Node;
@@ -44,6 +44,8 @@ impl<S: Copy> Forest<'_, S> {
         requires used { ⌜ 0 < link-at (links-of (now self)) node .count ⌝ }
         requires room { ⌜ link-at (links-of (now self)) node .count + 1 < 2 ^ 32 ⌝ }
         ensures kept { λ _. ⌜ states-of (now (self .exit)) ≡ states-of (now (self .entry)) ⌝ }
+        ensures links { λ _. ⌜ links-of (now (self .exit)) ≡ set (links-of (now (self .entry))) node (raised (link-at (links-of (now (self .entry))) node)) ⌝ }
+        ensures head { λ _. ⌜ now (self .exit) .head ≡ now (self .entry) .head ⌝ }
         ensures frame { λ _. ⌜ Kept (links-of (now (self .entry))) (links-of (now (self .exit))) ⌝ }
         ensures free { λ _. ⌜ now (self .exit) .free ≡ now (self .entry) .free ⌝ }
         ensures tree { λ _. ⌜ ((w serial : ℕ → ℕ) (issued : ℕ) → Is-tree (now (self .entry)) w serial issued → Is-tree (now (self .exit)) (λ n. w n + is-node n node) serial issued) ⌝ }

@@ -6,7 +6,7 @@ ghost use lib.ListN.{length, set};
 ghost use Rattle.std.specs.declared.option.Option.{Option as Maybe};
 ghost use Rattle.std.specs.declared.option.Option.the-variants.{Some, None};
 ghost use Rattle.std.specs.shelf.Lists.{sumBy};
-ghost use Rattle.cloud.specs.Links.{links, link-at, linked, states, Kept};
+ghost use Rattle.cloud.specs.Links.{links, link-at, linked, raised, states, Kept};
 ghost use Rattle.cloud.specs.Trees.{Tree, is-node, is-named, is-used, how-many, with-serial, Some-tree-from};
 use crate::node::Node;
 use crate::node::count_of;
@@ -35,6 +35,7 @@ pub(crate) fn retain<S>(nodes: &mut [Node<S>], node: u16)
     requires used { ⌜ 0 < link-at (links (now nodes)) node .count ⌝ }
     requires room { ⌜ link-at (links (now nodes)) node .count + 1 < 2 ^ 32 ⌝ }
     ensures kept { λ _. ⌜ states (now (nodes .exit)) ≡ states (now (nodes .entry)) ⌝ }
+    ensures links { λ _. ⌜ links (now (nodes .exit)) ≡ set (links (now (nodes .entry))) node (raised (link-at (links (now (nodes .entry))) node)) ⌝ }
     ensures frame { λ _. ⌜ Kept (links (now (nodes .entry))) (links (now (nodes .exit))) ⌝ }
     ensures tree { λ _. ⌜ ((head : Maybe ℕ) (free : ℕ) (w serial : ℕ → ℕ) (issued : ℕ) → Tree (links (now (nodes .entry))) head free w serial issued → Tree (links (now (nodes .exit))) head free (λ n. w n + is-node n node) serial issued) ⌝ }
 {

@@ -1,5 +1,5 @@
 use mathlib.Core.Path.{sym, ap}
-use Rattle.cloud.proofs.Trees.{link-at-links}
+use Rattle.cloud.proofs.Links.{link-at-links}
 use Rattle.cloud.proofs.node.parent_of.Needs as need
 
 pub returns : need.returns

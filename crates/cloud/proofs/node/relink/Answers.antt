@@ -1,4 +1,4 @@
-use Rattle.cloud.proofs.Trees.{relinked, relinked-states}
+use Rattle.cloud.proofs.Links.{relinked, relinked-states}
 use Rattle.cloud.proofs.node.relink.Needs as need
 
 pub returns : need.returns

@@ -1,6 +1,6 @@
 use mathlib.Core.Path.{refl}
 use Rattle.std.proofs.shelf.Lists.{map-set}
-use Rattle.cloud.proofs.Trees.{links-kept}
+use Rattle.cloud.proofs.Links.{links-kept}
 use Rattle.cloud.proofs.node.set_state.Needs as need
 
 pub returns : need.returns

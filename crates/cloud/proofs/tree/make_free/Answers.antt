@@ -3,7 +3,8 @@ use mathlib.Core.Path.{_≡_, refl, subst, sym, _∙_}
 use lib.ListN.{length}
 use Prim.Native.Nat.{_<_}
 use Rattle.cloud.specs.Links.{links}
-use Rattle.cloud.proofs.Trees.{All-free, all-free-none, all-free-more, all-free-tree, length-links}
+use Rattle.cloud.proofs.Freeing.{All-free, all-free-none, all-free-more, all-free-tree}
+use Rattle.cloud.proofs.Links.{length-links}
 use Rattle.cloud.proofs.tree.make_free.Needs as need
 
 pub loop-i-holds : need.loop-i-holds

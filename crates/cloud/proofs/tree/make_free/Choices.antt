@@ -1,6 +1,6 @@
 use mathlib.Core.Path.{_≡_}
 use Rattle.cloud.specs.Links.{links, states}
-use Rattle.cloud.proofs.Trees.{All-free}
+use Rattle.cloud.proofs.Freeing.{All-free}
 use Rattle.cloud.proofs.tree.make_free.Given as given
 
 abbrev pub Inv-loop-i : given.InvT-loop-i

@@ -3,7 +3,9 @@ use mathlib.Core.Path.{_∙_}
 use Prim.Native.Nat.{_<_}
 use Rattle.std.specs.declared.option.Option.the-variants.{Some}
 use Rattle.cloud.specs.Links.{links}
-use Rattle.cloud.proofs.Trees.{kept-refl, kept-trans, release-inside, release-used, release-again, release-ends, length-links, used-le, some-tree-few}
+use Rattle.cloud.proofs.Links.{kept-refl, kept-trans, length-links}
+use Rattle.cloud.proofs.Releasing.{release-inside, release-used, release-again, release-ends, some-tree-few}
+use Rattle.cloud.proofs.Tallies.{used-le}
 use Rattle.cloud.proofs.tree.release.Needs as need
 
 pub release-one-step-requires : need.release-one-step-requires

@@ -3,7 +3,9 @@ use Prim.Native.Nat.{_<_, _≤_}
 use mathlib.Core.Path.{_≡_}
 use lib.ListN.{length}
 use Rattle.cloud.specs.Links.{links}
-use Rattle.cloud.proofs.Trees.{kept-set, tree-lowered, tree-freed, used-kept, used-less, how-many-le, length-links}
+use Rattle.cloud.proofs.Links.{kept-set, length-links}
+use Rattle.cloud.proofs.Trees.{tree-lowered, tree-freed}
+use Rattle.cloud.proofs.Tallies.{used-kept, used-less, how-many-le}
 use Rattle.cloud.proofs.tree.release_one.Needs as need
 
 pub returns-then-count-gt1 : need.returns-then-count-gt1

@@ -3,7 +3,8 @@ use Prim.Native.Nat.{_≤_, _+_}
 use mathlib.Core.Path.{subst}
 use Rattle.cloud.specs.Links.{links}
 use Rattle.cloud.specs.Trees.{Tree, is-named}
-use Rattle.cloud.proofs.Trees.{some-tree-no-head, some-tree-head-inside, some-tree-head-free, length-links}
+use Rattle.cloud.proofs.Trees.{some-tree-no-head, some-tree-head-inside, some-tree-head-free}
+use Rattle.cloud.proofs.Links.{length-links}
 use Rattle.cloud.proofs.forest.Forest.issue.Needs as need
 
 pub unreachable-requires : need.unreachable-requires
