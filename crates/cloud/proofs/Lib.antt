@@ -5,3 +5,4 @@ pub mod Freeing
 pub mod Releasing
 pub mod Exactness
 pub mod Serials
+pub mod ReleasingAll

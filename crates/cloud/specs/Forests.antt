@@ -4,7 +4,7 @@ use mathlib.Core.List.{List}
 use denote.Ref.{now}
 use Rattle.cloud.specs.declared.forest.Forest.{Forest}
 use Rattle.cloud.specs.Links.{Link, links, states}
-use Rattle.cloud.specs.Trees.{Tree, Some-tree, Some-tree-at}
+use Rattle.cloud.specs.Trees.{Tree, Some-tree, Some-tree-at, Some-tree-all}
 
 abbrev pub links-of : {S : Type 0} → Forest S → List Link
 links-of f = links (now (f .nodes))
@@ -23,3 +23,7 @@ Has-tree f = Some-tree (links-of f) (f .head) (f .free)
 -- the nodes are some tree in which something names the node
 abbrev pub Has-tree-at : {S : Type 0} → Forest S → ℕ → Type 0
 Has-tree-at f node = Some-tree-at (links-of f) (f .head) (f .free) node
+
+-- the nodes are some tree in which things name each node of a list
+abbrev pub Has-tree-all : {S : Type 0} → Forest S → List ℕ → Type 0
+Has-tree-all f ns = Some-tree-all (links-of f) (f .head) (f .free) ns

@@ -75,3 +75,7 @@ Some-tree-at ls head free node = ∥ ((w : ℕ → ℕ) × (serial : ℕ → ℕ
 -- there is one, however many nodes are free, in which a particle or a hold names the node of o, if there is one
 abbrev pub Some-tree-from : List Link → Option ℕ → Option ℕ → Type 0
 Some-tree-from ls head o = ∥ ((free : ℕ) × (w : ℕ → ℕ) × (serial : ℕ → ℕ) × (issued : ℕ) × Tree ls head free (λ n. w n + is-named o n) serial issued) ∥₁
+
+-- there is one in which particles and holds name each node of a list
+abbrev pub Some-tree-all : List Link → Option ℕ → ℕ → List ℕ → Type 0
+Some-tree-all ls head free ns = ∥ ((w : ℕ → ℕ) × (serial : ℕ → ℕ) × (issued : ℕ) × Tree ls head free (λ k. w k + sumBy (is-node k) ns) serial issued) ∥₁

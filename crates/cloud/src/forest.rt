@@ -4,9 +4,10 @@ ghost use Prim.Native.Nat.{ℕ, _+_, _-_, _^_, _<_, _≤_, min};
 ghost use denote.Ref.{now};
 ghost use lib.ListN.{length, set};
 ghost use Rattle.std.specs.declared.option.Option.the-variants.{Some, None};
+ghost use Rattle.std.specs.shelf.Lists.{sumBy};
 ghost use Rattle.cloud.specs.Links.{link-at, linked, raised, Kept};
 ghost use Rattle.cloud.specs.Trees.{Tree, is-node, is-named, with-serial};
-ghost use Rattle.cloud.specs.Forests.{links-of, states-of, Is-tree, Has-tree, Has-tree-at};
+ghost use Rattle.cloud.specs.Forests.{links-of, states-of, Is-tree, Has-tree, Has-tree-at, Has-tree-all};
 use crate::node::Node;
 use crate::tree::issue;
 use crate::tree::make_free;
@@ -65,6 +66,22 @@ impl<S: Copy> Forest<'_, S> {
         let (head, freed) = release(self.nodes, first, node);
         self.head = head;
         self.free += freed as usize;
+        freed
+    }
+
+    // Each node of a list is released; how many nodes were freed.
+    pub(crate) fn release_all(&mut self, named: &[u16]) -> u32
+        requires { ⌜ Has-tree-all (now self) (now named) ⌝ }
+        ensures kept { λ _. ⌜ states-of (now (self .exit)) ≡ states-of (now (self .entry)) ⌝ }
+        ensures frame { λ _. ⌜ Kept (links-of (now (self .entry))) (links-of (now (self .exit))) ⌝ }
+        ensures freed { λ r. ⌜ now (self .exit) .free ≡ now (self .entry) .free + r ⌝ }
+        ensures tree { λ _. ⌜ ((w serial : ℕ → ℕ) (issued : ℕ) → Is-tree (now (self .entry)) (λ k. w k + sumBy (is-node k) (now (named .entry))) serial issued → Is-tree (now (self .exit)) w serial issued) ⌝ }
+    {
+        let mut freed = 0;
+        for i in 0..named.len() {
+            let node = named[i];
+            freed += self.release(node);
+        }
         freed
     }
 
