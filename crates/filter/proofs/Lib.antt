@@ -7,6 +7,7 @@ pub mod Refusals
 pub mod Replies
 pub mod Lengths
 pub mod Sounds
+pub mod Holds
 pub mod States
 pub mod Makings
 pub mod Descents

@@ -1,6 +1,7 @@
 -- The calls of a filter. Assumes nothing.
 use Prim.Native.Nat.{ℕ}
 
+-- what is asked of a filter
 pub data Call : Type 0 where
   -- how many particles
   start : ℕ → Call

@@ -17,6 +17,7 @@ pub record Pair (S : Type 0) : Type 0 where
 abbrev pub Path-of : Type 0 → Type 0
 Path-of S = List (Pair S)
 
+-- the filter between two calls
 pub record Filter (S : Type 0) : Type 0 where
   pub phase : Phase
   -- how many advances there were since the start
@@ -33,6 +34,7 @@ pub record Filter (S : Type 0) : Type 0 where
   pub issued : ℕ
   -- how many nodes the maker uses
   pub room : ℕ
+  -- what tells the maker's holds from another's
   pub stamp : ℕ
 
 -- the filter as its maker leaves it, who brought so many nodes

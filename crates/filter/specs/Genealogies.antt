@@ -16,6 +16,7 @@ use Rattle.filter.specs.Runs.{Turn, all-issued, all-freed, all-drawn, reached}
 use Rattle.filter.specs.Makings.{makings, All-apart}
 use Rattle.filter.specs.Descents.{Descends}
 
+-- the call was granted
 abbrev pub is-done : Reply → Bool
 is-done (refused e) = false
 is-done (done i d a) = true
@@ -24,11 +25,12 @@ is-done (done i d a) = true
 abbrev pub Fair-turn : {S : Type 0} → Filter S → Turn → Type 0
 Fair-turn f t = t .call ≡ resample → is-done (t .told) ≡ true → Fair (f .weights) (parents-now f)
 
+-- every turn of the run is so
 abbrev pub All-fair : {S : Type 0} → Meaning S → Filter S → List Turn → Type 0
 All-fair m f₀ [] = Unit {0}
 All-fair m f₀ (t ∷ ts) = All-fair m f₀ ts × Fair-turn (reached m f₀ ts) t
 
--- after a run that began with f₀
+-- the states on paths come from births and moves, each by a draw of its own; nodes and numbers add up; resamplings were fair
 pub record Genealogy {S : Type 0} (m : Meaning S) (f₀ : Filter S) (ts : List Turn) : Type 0 where
   pub every-state-descends : All (Descends m (f₀ .source .to-come) (makings ts)) (all-paths (reached m f₀ ts))
   pub no-draw-serves-two-nodes : All-apart (makings ts)

@@ -17,16 +17,19 @@ use Rattle.filter.specs.Filters.{Filter}
 use Rattle.filter.specs.Uses.{free}
 use Rattle.filter.specs.Calls.{Call, start, advance, weigh, resample, hold, give-back, finish}
 
+-- there are no particles
 abbrev pub is-empty : Phase → Bool
 is-empty Empty = true
 is-empty Level = false
 is-empty Weighed = false
 
+-- there are particles, and all weigh the same
 abbrev pub is-level : Phase → Bool
 is-level Empty = false
 is-level Level = true
 is-level Weighed = false
 
+-- each particle has the weight of a reading
 abbrev pub is-weighed : Phase → Bool
 is-weighed Empty = false
 is-weighed Level = false

@@ -1,4 +1,4 @@
--- What a call tells. Assumes nothing.
+-- Replies: what a call tells of nodes, and its answer. Assumes nothing.
 use mathlib.Core.Path.{_≡_}
 use mathlib.Core.List.{List, map}
 use Prim.Native.Nat.{ℕ, _-_, _<_}
@@ -14,6 +14,7 @@ use Rattle.filter.specs.Calls.{Call, start, advance, weigh, resample, hold, gi
 use Rattle.filter.specs.Refusals.{refusal}
 use Rattle.filter.specs.Steps.{weight, granted}
 
+-- what a granted call answers beside the nodes
 pub data Answer : Type 0 where
   nothing : Answer
   -- the total of the weights
@@ -21,6 +22,7 @@ pub data Answer : Type 0 where
   -- a hold, by its stamp and its place
   held : ℕ → ℕ → Answer
 
+-- what a call tells
 pub data Reply : Type 0 where
   -- no node was issued and none was freed
   refused : Refusal → Reply
@@ -41,7 +43,7 @@ issued-by f finish = 0
 abbrev pub freed : {S : Type 0} → Filter S → Filter S → ℕ
 freed f f′ = in-use f - in-use f′
 
--- what a granted call answers
+-- the answer of a granted call; a hold takes the place that is given
 abbrev pub answer : {S : Type 0} → Meaning S → Filter S → Call → ℕ → Answer
 answer m f (start n) place = nothing
 answer m f (advance c) place = nothing
@@ -51,6 +53,7 @@ answer m f (hold k) place = held (f .stamp) place
 answer m f (give-back stamp given) place = nothing
 answer m f finish place = nothing
 
+-- the refusal, or the rest where there is none
 abbrev pub replied : Option Refusal → ℕ → ℕ → Answer → Reply
 replied None i d a = done i d a
 replied (Some e) i d a = refused e
@@ -61,20 +64,23 @@ reply m f call place = replied (refusal m f call) (issued-by f call) (freed f (g
 
 -- What a reply tells
 
+-- the nodes issued
 abbrev pub told-issued : Reply → ℕ
 told-issued (refused e) = 0
 told-issued (done i d a) = i
 
+-- the nodes freed
 abbrev pub told-freed : Reply → ℕ
 told-freed (refused e) = 0
 told-freed (done i d a) = d
 
--- the place that a hold took
+-- the place of a hold, else 0
 abbrev pub place-in : Answer → ℕ
 place-in nothing = 0
 place-in (weighing w) = 0
 place-in (held stamp place) = place
 
+-- the place that a hold took
 abbrev pub told-place : Reply → ℕ
 told-place (refused e) = 0
 told-place (done i d a) = place-in a
@@ -85,6 +91,7 @@ Was-closed places nothing = Unit {0}
 Was-closed places (weighing w) = Unit {0}
 Was-closed places (held stamp place) = (place < length places) × (getD places place None ≡ None)
 
+-- a place that was taken was closed
 abbrev pub Took-closed : {A : Type 0} → List (Option A) → Reply → Type 0
 Took-closed places (refused e) = Unit {0}
 Took-closed places (done i d a) = Was-closed places a

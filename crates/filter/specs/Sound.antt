@@ -26,15 +26,21 @@ Agree p r = (i j : ℕ) → i < length p → j < length r → getD (serials-on p
 abbrev pub All-agree : {S : Type 0} → List (Path-of S) → Type 0
 All-agree ps = All (λ p. All (Agree p) ps) ps
 
+-- what calls keep, whatever the model and in whatever order they come
 pub record Sound {S : Type 0} (f : Filter S) : Type 0 where
+  -- the numbers to come
   pub supply-lawful : Lawful (f .source)
+  -- the paths of particles and of open holds
   pub serials-fall : All Falling (all-paths f)
   pub serials-below-issued : All (λ s. s < f .issued) (serials (all-paths f))
   pub one-serial-one-node : All-agree (all-paths f)
   pub paths-begun : All (λ p. 0 < length p) (all-paths f)
+  -- the paths of particles
   pub paths-as-long-as-round : All (λ p. length p ≡ f .round + 1) (f .paths)
+  -- hold places and nodes
   pub sixteen-places : length (f .places) ≡ 16
   pub in-use-within-room : in-use f ≤ f .room
+  -- each phase has its particles and weights
   pub nobody-while-empty : f .phase ≡ Empty → f .paths ≡ []
   pub particles-in-range : (f .phase ≡ Empty → ⊥) → in-range (length (f .paths)) ≡ true
   pub each-weighed : f .phase ≡ Weighed → length (f .weights) ≡ length (f .paths)

@@ -11,7 +11,7 @@ use Rattle.models.specs.Kinds.{Kind}
 use Rattle.models.specs.Meanings.{Meaning, Lawful as LawfulModel}
 use Rattle.filter.specs.Filters.{Filter, fresh}
 use Rattle.filter.specs.Uses.{all-paths, in-use}
-use Rattle.filter.specs.Calls.{Call}
+use Rattle.filter.specs.Calls.{Call, hold}
 use Rattle.filter.specs.Refusals.{refusal}
 use Rattle.filter.specs.Steps.{step}
 use Rattle.filter.specs.Replies.{Reply, refused, reply, told-issued, told-freed, Tells}
@@ -35,6 +35,10 @@ Every-step-keeps-soundness S = (m : Meaning S) (f : Filter S) (call : Call) (pla
 abbrev pub Every-step-balances : Type 0 → Type 0
 Every-step-balances S = (m : Meaning S) (f : Filter S) (call : Call) (place : ℕ) → Sound f
     → in-use (step m f call place) + told-freed (reply m f call place) ≡ in-use f + told-issued (reply m f call place)
+
+-- a hold frees nothing: the place that it takes was closed
+abbrev pub A-hold-frees-nothing : Type 0 → Type 0
+A-hold-frees-nothing S = (m : Meaning S) (f : Filter S) (k : ℕ) (told : Reply) → Sound f → Tells m f (hold k) told → told-freed told ≡ 0
 
 -- under a lawful model, only states come onto paths
 abbrev pub Every-step-keeps-states : Type 0 → Type 0

@@ -1,7 +1,7 @@
 // Statements about the definitions, each for every type of states.
 ghost use Rattle.filter.specs.Examples.{Worked-run};
 ghost use Rattle.filter.specs.RefusalExamples.{Worked-refusals};
-ghost use Rattle.filter.specs.Theorems.{Every-call-has-a-reply, A-refused-call-changes-nothing, No-path-is-longer-than-the-nodes-in-use, Every-step-keeps-soundness, Every-step-balances, Every-step-keeps-states, Every-run-is-sound, Every-run-keeps-states, Every-run-has-its-genealogy};
+ghost use Rattle.filter.specs.Theorems.{Every-call-has-a-reply, A-refused-call-changes-nothing, A-hold-frees-nothing, No-path-is-longer-than-the-nodes-in-use, Every-step-keeps-soundness, Every-step-balances, Every-step-keeps-states, Every-run-is-sound, Every-run-keeps-states, Every-run-has-its-genealogy};
 
 // Every call can be told of, so there are runs of any calls.
 pub fn every_call_has_a_reply<S>() -> bool
@@ -27,6 +27,13 @@ pub fn every_step_keeps_soundness<S>() -> bool
 // A call changes the number of nodes in use by those that it issued and those that it freed.
 pub fn every_step_balances<S>() -> bool
     ensures { λ _. ⌜ Every-step-balances S ⌝ }
+{
+    true
+}
+
+// A hold frees nothing: the place that it takes was closed.
+pub fn a_hold_frees_nothing<S>() -> bool
+    ensures { λ _. ⌜ A-hold-frees-nothing S ⌝ }
 {
     true
 }
