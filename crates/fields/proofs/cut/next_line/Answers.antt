@@ -2,8 +2,8 @@ use Rattle.std.proofs.Common.{◌<◌, length, arith, rules, true-eqb, false-eqb
 use Rattle.fields.proofs.Cutting.{lines_none, lines_more, lines_last, after_shorter}
 use Rattle.fields.proofs.cut.next_line.Goals as goal
 
-pub returns-then-is-empty : goal.returns-then-is-empty
-returns-then-is-empty c = search (rules, lines_none)
+pub returns-then-is_empty : goal.returns-then-is_empty
+returns-then-is_empty c = search (rules, lines_none)
 
 pub returns-in-Some : goal.returns-in-Some
 returns-in-Some c =

@@ -32,20 +32,20 @@ loop-numbers-preserved c =
     let bs = c.loop-numbers.rest.now in
     let more = vec_items c.push.new.self in
     let rest : after 44 bs ≡ Some c.in-Some.next.now = sym c.cut.ensures.rest ∙ ap (option_map (λ x. x.now)) c.in-Some.is in
-    let read : read_field k limit (front 44 bs) ≡ Ok c.in-ok-number.number = read_as c.len.ensures c.from.ensures c.cut.ensures.front c.in-ok-number.ensures.value in
-    let longer : vec_len c.push.new.self + 1 ≡ k + 1 = ap (λ (n : ℕ). n + 1) c.in-ok-push.ensures.len in
+    let read : read_field k limit (front 44 bs) ≡ Ok c.in_ok-number.number = read_as c.len.ensures c.from.ensures c.cut.ensures.front c.in_ok-number.ensures.value in
+    let longer : vec_len c.push.new.self + 1 ≡ k + 1 = ap (λ (n : ℕ). n + 1) c.in_ok-push.ensures.len in
     ap (λ (m : ℕ). after_those more (numbers_of m limit (fields c.in-Some.next.now))) longer
-    ∙ ap (λ (l : List ℕ). after_those l (numbers_of (k + 1) limit (fields c.in-Some.next.now))) c.in-ok-push.ensures.items
-    ∙ sym (read_one ns k limit bs c.in-ok-number.number (Some c.in-Some.next.now) read rest)
+    ∙ ap (λ (l : List ℕ). after_those l (numbers_of (k + 1) limit (fields c.in-Some.next.now))) c.in_ok-push.ensures.items
+    ∙ sym (read_one ns k limit bs c.in_ok-number.number (Some c.in-Some.next.now) read rest)
     ∙ c.loop-numbers.invariant
 
-pub returns-in-err-number : goal.returns-in-err-number
-returns-in-err-number c =
+pub returns-in_err-number : goal.returns-in_err-number
+returns-in_err-number c =
     let k = vec_len c.loop-numbers.numbers + 1 in
     let bs = c.loop-numbers.rest.now in
-    let read : read_field k c.args.limit (front 44 bs) ≡ Err c.in-err-number.field-0.0 = read_as c.len.ensures c.from.ensures c.cut.ensures.front c.in-err-number.ensures.value in
-    let p = err_from_is_err_and c.from-residual.result c.from-residual.ensures.1 in
-    rw (p.1, p.2) (sym c.loop-numbers.invariant ∙ read_fault (vec_items c.loop-numbers.numbers) k c.args.limit bs c.in-err-number.field-0.0 read)
+    let read : read_field k c.args.limit (front 44 bs) ≡ Err c.in_err-number.field-0.0 = read_as c.len.ensures c.from.ensures c.cut.ensures.front c.in_err-number.ensures.value in
+    let p = err_from_is_err_and c.from_residual.result c.from_residual.ensures.1 in
+    rw (p.1, p.2) (sym c.loop-numbers.invariant ∙ read_fault (vec_items c.loop-numbers.numbers) k c.args.limit bs c.in_err-number.field-0.0 read)
 
 pub returns-in-None : goal.returns-in-None
 returns-in-None c =
@@ -53,7 +53,7 @@ returns-in-None c =
     let k = vec_len c.loop-numbers.numbers + 1 in
     let bs = c.loop-numbers.rest.now in
     let rest : after 44 bs ≡ None = sym c.cut.ensures.rest ∙ ap (option_map (λ x. x.now)) c.in-None.is in
-    let read : read_field k c.args.limit (front 44 bs) ≡ Ok c.in-ok-number.number = read_as c.len.ensures c.from.ensures c.cut.ensures.front c.in-ok-number.ensures.value in
+    let read : read_field k c.args.limit (front 44 bs) ≡ Ok c.in_ok-number.number = read_as c.len.ensures c.from.ensures c.cut.ensures.front c.in_ok-number.ensures.value in
     sym c.loop-numbers.invariant
-    ∙ read_one ns k c.args.limit bs c.in-ok-number.number None read rest
-    ∙ ap (λ (l : List ℕ). Ok l) (append-nil (ns ++ (c.in-ok-number.number ∷ [])) ∙ sym c.in-ok-push.ensures.items)
+    ∙ read_one ns k c.args.limit bs c.in_ok-number.number None read rest
+    ∙ ap (λ (l : List ℕ). Ok l) (append-nil (ns ++ (c.in_ok-number.number ∷ [])) ∙ sym c.in_ok-push.ensures.items)

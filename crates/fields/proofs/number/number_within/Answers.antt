@@ -4,8 +4,8 @@ use Rattle.std.proofs.lemmas.List.{at_drop_all}
 use Rattle.fields.proofs.Digits.{step, after_ge}
 use Rattle.fields.proofs.number.number_within.Goals as goal
 
-pub overflow-sub-digit : goal.overflow-sub-digit
-overflow-sub-digit c = omega (arith, (step c.loop-byte.number _ _ c.loop-byte-test.true c.loop-byte.invariant.1).digit)
+pub overflow_sub-digit : goal.overflow_sub-digit
+overflow_sub-digit c = omega (arith, (step c.loop-byte.number _ _ c.loop-byte-test.true c.loop-byte.invariant.1).digit)
 
 pub returns-then-next-from : goal.returns-then-next-from
 returns-then-next-from c =

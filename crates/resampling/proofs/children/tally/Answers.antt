@@ -18,8 +18,8 @@ bounds-counts-i c = omega (arith, known c.args.parents.now c.loop-parent.parent-
 pub bounds-counts-i-in-loop-parent : goal.bounds-counts-i-in-loop-parent
 bounds-counts-i-in-loop-parent c = omega (arith, known c.args.parents.now c.loop-parent.parent-index c.requires.known c.loop-parent-test.true)
 
-pub overflow-add-counts : goal.overflow-add-counts
-overflow-add-counts c =
+pub overflow_add-counts : goal.overflow_add-counts
+overflow_add-counts c =
     let ps = c.args.parents.now in
     let p = get_or ps c.loop-parent.parent-index 0 in
     let so_far = c.loop-parent.invariant.0 p (known ps c.loop-parent.parent-index c.requires.known c.loop-parent-test.true) in

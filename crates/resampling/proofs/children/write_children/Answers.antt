@@ -9,7 +9,7 @@ tally-requires c =
     record {
       few = omega arith;
       room = omega arith;
-      known = sym c.if-not-are-below.ensures;
+      known = sym c.if-not-are_below.ensures;
       cleared = ap (take n) c.clear.ensures ∙ take_at (replicate n 0) (drop n c.args.row.now) n (length-replicate n 0);
     }
 

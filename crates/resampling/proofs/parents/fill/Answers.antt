@@ -13,8 +13,8 @@ loop-k-init c =
     let h : 0 < length ws = some_weight ws (omega arith) in
     (h, zero-le, omega (arith, before_more ws 0 h, c.from-sum.ensures), omega (arith, mark_none ws c.args.first, c.from-mark.ensures), omega (arith, mul-zero (length ws)), refl)
 
-pub overflow-mul-n : goal.overflow-mul-n
-overflow-mul-n c =
+pub overflow_mul-n : goal.overflow_mul-n
+overflow_mul-n c =
     let ws = c.args.weights.now in
     let low : c.loop-k.sum ≤ 16776960 = omega (arith, before_le_total ws (c.loop-k.i + 1)) in
     let p : length ws * c.loop-k.sum ≤ 256 * 16776960 = mul-below (length ws) c.loop-k.sum 256 16776960 c.requires.few low in
@@ -44,8 +44,8 @@ bounds-weights-i c =
     let over : length ws * before ws (c.loop-k.i + 1) ≤ c.loop-k.mark = rw v.2 at c.if-mark-n.false in
     not_last ws c.args.first c.loop-k.k c.loop-k.i hu c.loop-k-test.true v.0 (rw v.3 at over)
 
-pub overflow-add-sum : goal.overflow-add-sum
-overflow-add-sum c =
+pub overflow_add-sum : goal.overflow_add-sum
+overflow_add-sum c =
     let ws = c.args.weights.now in
     let low : c.loop-k.sum ≤ 16776960 = omega (arith, before_le_total ws (c.loop-k.i + 1)) in
     search rules

@@ -11,9 +11,9 @@ returns c =
     let ws = c.args.weights.now in
     let old = c.args.row.now in
     let u = offset c.args.drawn (total ws) in
-    let whole : c.in-ok-whole.whole ≡ total ws = search rules in
-    let first : c.offset-of.result ≡ u = c.offset-of.ensures.value ∙ ap (offset c.args.drawn) whole in
-    let inside : u < total ws = offset_below c.args.drawn (total ws) (omega (arith, c.in-ok-whole.ensures.bound)) c.ranges.drawn.fits in
+    let whole : c.in_ok-whole.whole ≡ total ws = search rules in
+    let first : c.offset_of.result ≡ u = c.offset_of.ensures.value ∙ ap (offset c.args.drawn) whole in
+    let inside : u < total ws = offset_below c.args.drawn (total ws) (omega (arith, c.in_ok-whole.ensures.bound)) c.ranges.drawn.fits in
     let row : c.fill.new.row ≡ parents ws u ++ drop (length ws) old = c.fill.ensures ∙ ap (λ (x : ℕ). parents ws x ++ drop (length ws) old) first in
     let front : take (length ws) c.fill.new.row ≡ parents ws u = ap (take (length ws)) row ∙ take_at (parents ws u) (drop (length ws) old) (length ws) (systematic ws u inside).count in
     record { reply = search rules; row = row; systematic = subst (Systematic ws u) (sym front) (systematic ws u inside) }

@@ -6,5 +6,5 @@ use Rattle.sources.proofs.generator.GeneratorSource.draw.Goals as goal
 pub returns : goal.returns
 returns c =
     let v = c.args.self.now.value in
-    let e : c.next-number.new.self.value ≡ step v = c.next-number.ensures.held ∙ c.next-number.ensures.number in
-    record { answer = ap Ok c.next-number.ensures.number; rest = ap generator_supply e ∙ generator_after 1 v; same = refl; held = e }
+    let e : c.next_number.new.self.value ≡ step v = c.next_number.ensures.held ∙ c.next_number.ensures.number in
+    record { answer = ap Ok c.next_number.ensures.number; rest = ap generator_supply e ∙ generator_after 1 v; same = refl; held = e }

@@ -3,8 +3,8 @@ use Rattle.sources.proofs.Recordings.{same_row}
 use Rattle.sources.specs.RowsLemmas.{words_set, part_more}
 use Rattle.sources.proofs.recorded.Recorded.push.Goals as goal
 
-pub invariant-of-self : goal.invariant-of-self
-invariant-of-self c = (omega arith, (omega arith, (words_set c.args.self.now.numbers c.args.self.now.count c.args.v c.args.self.now.words (omega arith), tt)))
+pub invariant_of-self : goal.invariant_of-self
+invariant_of-self c = (omega arith, (omega arith, (words_set c.args.self.now.numbers c.args.self.now.count c.args.v c.args.self.now.words (omega arith), tt)))
 
 pub returns : goal.returns
 returns c =

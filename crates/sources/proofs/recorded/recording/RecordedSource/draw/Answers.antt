@@ -19,9 +19,9 @@ returns c =
     let xs = drop s.place ys in
     let some : 0 < length xs = simp (length-drop, length-take) (omega arith) in
     let first : get_or xs 0 0 ≡ get_or s.numbers s.place 0 = get_or-drop s.place ys 0 0 ∙ ap (λ n. get_or ys n 0) (add-zero s.place) ∙ get_or-take s.count s.numbers s.place 0 c.if-self.false in
-    let less : recording c.take-next.new.self ≡ less_first (recording s) = c.take-next.ensures.holds ∙ same_row s.count _ _ (sym (drop-drop 1 s.place ys)) in
+    let less : recording c.take_next.new.self ≡ less_first (recording s) = c.take_next.ensures.holds ∙ same_row s.count _ _ (sym (drop-drop 1 s.place ys)) in
     record {
-      answer = ap Ok (c.take-next.ensures.number ∙ sym first) ∙ sym (row_drawn xs some);
+      answer = ap Ok (c.take_next.ensures.number ∙ sym first) ∙ sym (row_drawn xs some);
       rest = ap (λ t. recorded_supply t.row) less ∙ sym (row_left xs some);
       same = ap (λ t. t.ever) less;
       holds = less;
