@@ -8,3 +8,4 @@ pub mod Lifts
 pub mod Layers
 pub mod Examples
 pub mod Moves
+pub mod Laws

@@ -1,9 +1,9 @@
 // A layer whose scores have a least value.
 ghost use Rattle.std.specs.Prelude.{◌≡◌, ◌≤◌};
 ghost use Rattle.models.specs.Layers.{floored};
-ghost use Rattle.std.proofs.Common.{rules, arith};
+ghost use Rattle.models.specs.Laws.{floored_lawful};
 
-use crate::model::Model;
+use crate::model::Model as FilterModel;
 use crate::state::State;
 use refusals::Refusal;
 
@@ -15,12 +15,12 @@ pub struct Floor<M> {
     ghost small: { least ≤ 65535 },
 }
 
-pub impl<M: Model> Model for Floor<M> {
+impl<M: FilterModel> FilterModel for Floor<M> {
     type State = M::State;
 
     ghost meaning = { λ l. floored l.least (M.Model.meaning l.below) };
 
-    ghost lawful = { first_of (Prim.search rules, Prim.grind (arith, Self.row.coded.inj)) };
+    ghost lawful = { λ l. floored_lawful M.State.State.kind (M.Model.meaning l.below) l.least l.small (M.Model.lawful l.below) };
 
     fn knows_command(&self, command: u8) -> bool {
         self.below.knows_command(command)

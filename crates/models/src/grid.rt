@@ -1,10 +1,9 @@
 // The grid: a cart on a map of 32 by 32 cells.
 ghost use Rattle.std.specs.Prelude.{◌≡◌, ◌<◌, ◌≤◌, replicate};
 ghost use Rattle.models.specs.Grids.{wall, row_reply, rows_after, ahead, reach, single_forward, overrun_forward, forward, grid_meaning};
-ghost use Rattle.std.proofs.Common.{rules};
-ghost use Rattle.models.specs.Moves.{grid_move_on};
+ghost use Rattle.models.specs.Laws.{grid_lawful};
 
-use crate::model::Model;
+use crate::model::Model as FilterModel;
 use crate::pose::{Heading, Pose};
 use crate::state::{State, State as _};
 use refusals::Refusal;
@@ -95,17 +94,12 @@ impl Grid {
     }
 }
 
-pub impl Model for Grid {
+impl FilterModel for Grid {
     type State = Pose;
 
     ghost meaning = { λ g. grid_meaning g.rows };
 
-    ghost lawful = { λ m.
-        record {
-          births = Prim.search rules;
-          moves = λ s c r i k b. grid_move_on m.rows s c r i;
-          scores = Prim.search rules;
-        } };
+    ghost lawful = { λ g. grid_lawful g.rows };
 
     fn knows_command(&self, command: u8) -> bool {
         command < 4

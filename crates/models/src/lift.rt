@@ -1,10 +1,10 @@
 // The lift: a table that is raised and lowered.
 ghost use Rattle.std.specs.Prelude.{◌≡◌, ◌<◌};
 ghost use Rattle.models.specs.Lifts.{run_on, lift_meaning};
-ghost use Rattle.std.proofs.Common.{rules};
+ghost use Rattle.models.specs.Laws.{lift_lawful};
 
 use crate::lift_state::{LiftState, Mode};
-use crate::model::Model;
+use crate::model::Model as FilterModel;
 use crate::state::{State, State as _};
 use refusals::Refusal;
 
@@ -34,12 +34,12 @@ fn run_on(s: LiftState, number: u32) -> LiftState
     }
 }
 
-pub impl Model for Lift {
+impl FilterModel for Lift {
     type State = LiftState;
 
     ghost meaning = { λ _. lift_meaning };
 
-    ghost lawful = { Prim.search rules };
+    ghost lawful = { λ _. lift_lawful };
 
     fn knows_command(&self, command: u8) -> bool {
         command < 3

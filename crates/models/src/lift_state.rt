@@ -1,7 +1,7 @@
 // States of the lift.
 ghost use Rattle.std.specs.Prelude.{◌≡◌};
 ghost use Rattle.models.specs.LiftStates.{lift_kind, lift_coding, mode_number, mode_of};
-ghost use Rattle.std.proofs.Common.{rules};
+ghost use Rattle.models.specs.Laws.{lift_exact};
 
 use crate::state::{Coded, State};
 
@@ -45,7 +45,7 @@ impl State for LiftState {
 impl Coded for LiftState {
     ghost coding = { lift_coding };
 
-    ghost exact = { Prim.search rules };
+    ghost exact = { lift_exact };
 
     fn code(self) -> Option<u32> {
         if self.is_state() {

@@ -1,7 +1,7 @@
 // Poses on the grid.
 ghost use Rattle.std.specs.Prelude.{◌≡◌};
 ghost use Rattle.models.specs.Poses.{pose_kind, pose_coding, heading_number, heading_of, right, left};
-ghost use Rattle.std.proofs.Common.{rules};
+ghost use Rattle.models.specs.Laws.{pose_exact};
 
 use crate::state::{Coded, State};
 
@@ -68,7 +68,7 @@ impl State for Pose {
 impl Coded for Pose {
     ghost coding = { pose_coding };
 
-    ghost exact = { Prim.search rules };
+    ghost exact = { pose_exact };
 
     fn code(self) -> Option<u32> {
         if self.is_state() {

@@ -1,9 +1,9 @@
 // A layer whose moves sometimes fail.
 ghost use Rattle.std.specs.Prelude.{◌≡◌};
 ghost use Rattle.models.specs.Layers.{slipping};
-ghost use Rattle.std.proofs.Common.{rules};
+ghost use Rattle.models.specs.Laws.{slipping_lawful};
 
-use crate::model::Model;
+use crate::model::Model as FilterModel;
 use crate::state::State;
 use refusals::Refusal;
 
@@ -14,12 +14,12 @@ pub struct Slip<M> {
     pub below: M,
 }
 
-pub impl<M: Model> Model for Slip<M> {
+impl<M: FilterModel> FilterModel for Slip<M> {
     type State = M::State;
 
     ghost meaning = { λ l. slipping l.chance (M.Model.meaning l.below) };
 
-    ghost lawful = { Prim.search rules };
+    ghost lawful = { λ l. slipping_lawful M.State.State.kind (M.Model.meaning l.below) l.chance (M.Model.lawful l.below) };
 
     fn knows_command(&self, command: u8) -> bool {
         self.below.knows_command(command)

@@ -11,13 +11,13 @@ loop-d-init c = sym (zero-add (prefix_len (free_at c.args.self.now.rows c.args.p
 pub loop-d-preserved : goal.loop-d-preserved
 loop-d-preserved c =
     let free : ℕ → Bool = free_at c.args.self.now.rows c.args.p in
-    let e : free (c.loop-d.d + 1) ≡ true = sym (ap is_some c.reach.ensures) ∙ c.if-is-none.ensures in
+    let e : free (c.loop-d.d + 1) ≡ true = sym (ap is_some c.reach.ensures) ∙ c.if-is_none.ensures in
     c.loop-d.invariant ∙ goes_on free 31 c.loop-d.d c.loop-d-test.true e
 
-pub returns-then-is-none : goal.returns-then-is-none
-returns-then-is-none c =
+pub returns-then-is_none : goal.returns-then-is_none
+returns-then-is_none c =
     let free : ℕ → Bool = free_at c.args.self.now.rows c.args.p in
-    let e : free (c.loop-d.d + 1) ≡ false = sym (ap is_some c.reach.ensures) ∙ c.if-is-none.ensures in
+    let e : free (c.loop-d.d + 1) ≡ false = sym (ap is_some c.reach.ensures) ∙ c.if-is_none.ensures in
     sym (c.loop-d.invariant ∙ stops free 31 c.loop-d.d c.loop-d-test.true e)
 
 pub returns : goal.returns

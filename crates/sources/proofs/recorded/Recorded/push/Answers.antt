@@ -4,7 +4,7 @@ use Rattle.sources.specs.RowsLemmas.{words_set, part_more}
 use Rattle.sources.proofs.recorded.Recorded.push.Goals as goal
 
 pub invariant_of-self : goal.invariant_of-self
-invariant_of-self c = (omega arith, (omega arith, (words_set c.args.self.now.numbers c.args.self.now.count c.args.v c.args.self.now.words (omega arith), tt)))
+invariant_of-self c = record { few = omega arith; within = omega arith; words = words_set c.args.self.now.numbers c.args.self.now.count c.args.v c.args.self.now.words (omega arith) }
 
 pub returns : goal.returns
 returns c =
