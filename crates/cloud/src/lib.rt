@@ -1,4 +1,6 @@
 // A particle filter over an ancestry tree in lent memory.
+#![tactic(auto)]
+
 pub mod cloud;
 mod draw;
 mod forest;

@@ -1,4 +1,6 @@
 // Rows of states, drawn from any model with any source.
+#![tactic(auto)]
+
 pub mod births;
 pub mod cart;
 pub mod moves;

@@ -1,4 +1,6 @@
 // Reads a log and prints what the echo replies to it, first as a log of locate, then as one of lift.
+#![tactic(auto)]
+
 mod echo;
 mod numbers;
 mod obey;

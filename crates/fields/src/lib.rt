@@ -1,4 +1,6 @@
 // Lines, fields and numbers in typed text: reading and writing.
+#![tactic(auto)]
+
 pub mod cut;
 pub mod fault;
 pub mod law;

@@ -1,4 +1,6 @@
 // Log lines, their faults, report lines, and the loop over a whole log.
+#![tactic(auto)]
+
 pub mod entry;
 pub mod fault;
 pub mod law;

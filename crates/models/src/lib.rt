@@ -1,4 +1,6 @@
 // Kinds of state, and the models of a particle filter over them.
+#![tactic(auto)]
+
 pub mod floor;
 pub mod grid;
 pub mod lift;

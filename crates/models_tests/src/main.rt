@@ -1,4 +1,5 @@
 // Prints tables of the models' answers, which are compared with what the rules give by hand.
+#![tactic(auto)]
 
 mod grid_tables;
 mod layer_tables;

@@ -1,4 +1,6 @@
 // Runs every case of the list through the call that its program makes, and compares the reports.
+#![tactic(auto)]
+
 mod difference;
 
 use anyhow::anyhow;

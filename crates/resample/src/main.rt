@@ -1,4 +1,6 @@
 // Reads a resampling exercise from the standard input and prints its worked answer.
+#![tactic(auto)]
+
 use exercise::input::LONGEST_INPUT;
 use exercise::report::report;
 use std::io::Read;

@@ -1,4 +1,6 @@
 // Sources of numbers.
+#![tactic(auto)]
+
 pub mod generator;
 pub mod recorded;
 pub mod restore;

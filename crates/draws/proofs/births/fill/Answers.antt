@@ -10,12 +10,12 @@ use Rattle.draws.proofs.births.fill.Goals as goal
 pub loop-place-init : goal.loop-place-init
 loop-place-init g c = (sym (after_none _), refl)
 
-pub returns-in-err-place : goal.returns-in-err-place
-returns-in-err-place g c =
+pub returns-in_err-place : goal.returns-in_err-place
+returns-in_err-place g c =
     let m = g.M.Model.meaning c.args.model.now in
     let s = g.R.Source.supply c.args.source.now in
     let born = birth_next s (g.met.R.Source.lawful c.args.source.now) c.loop-place.place-index (length c.args.row.now) (omega arith) c.requires _ c.loop-place.invariant.0 m in
-    let z : ◌≡◌ {A = ℕ} 0 1 = cc (c.next_birth.ensures.answer, born, c.in-err-place.was) in
+    let z : ◌≡◌ {A = ℕ} 0 1 = cc (c.next_birth.ensures.answer, born, c.in_err-place.was) in
     absurd (omega arith)
 
 pub loop-place-preserved : goal.loop-place-preserved
@@ -25,7 +25,7 @@ loop-place-preserved g c =
     let i = c.loop-place.place-index in
     let law = g.met.R.Source.lawful c.args.source.now in
     let born = birth_next s law i (length c.args.row.now) (omega arith) c.requires _ c.loop-place.invariant.0 m in
-    let is : c.in-ok-place.field-0 ≡ m.birth (s.to_come i) = cc (c.next_birth.ensures.answer, born, c.in-ok-place.was) in
+    let is : c.in_ok-place.field-0 ≡ m.birth (s.to_come i) = cc (c.next_birth.ensures.answer, born, c.in_ok-place.was) in
     let within : i < length c.loop-place.row = omega arith in (
       c.next_birth.ensures.rest ∙ left_next s law i (length c.args.row.now) (omega arith) c.requires _ c.loop-place.invariant.0,
       one_born m s c.loop-place.row i within _ c.loop-place.invariant.1 is,

@@ -14,8 +14,8 @@ loop-place-init g c =
     let known = and_parts (m.commands c.args.command) (all_states g.State.State.kind c.args.row.now) c.requires.known in
     (sym (after_none s), none_moved m c.args.command s c.args.row.now, known.1)
 
-pub returns-in-err-place : goal.returns-in-err-place
-returns-in-err-place g c =
+pub returns-in_err-place : goal.returns-in_err-place
+returns-in_err-place g c =
     let kind = g.State.State.kind in
     let m = g.M.Model.meaning c.args.model.now in
     let s = g.R.Source.supply c.args.source.now in
@@ -25,7 +25,7 @@ returns-in-err-place g c =
     let known = and_parts (m.commands c.args.command) (all_states kind c.args.row.now) c.requires.known in
     let here = one_less kind c.loop-place.row i within x c.place-item.is c.loop-place.invariant.2 x in
     let moved = move_next s (g.met.R.Source.lawful c.args.source.now) i (length c.args.row.now) (omega arith) c.requires.supplied _ c.loop-place.invariant.0 kind m c.args.command x here.0 known.0 in
-    let z : ◌≡◌ {A = ℕ} 0 1 = cc (c.next_move.ensures.answer, moved, c.in-err-place.was) in
+    let z : ◌≡◌ {A = ℕ} 0 1 = cc (c.next_move.ensures.answer, moved, c.in_err-place.was) in
     absurd (omega arith)
 
 pub loop-place-preserved : goal.loop-place-preserved
@@ -37,12 +37,12 @@ loop-place-preserved g c =
     let law = g.met.R.Source.lawful c.args.source.now in
     let row = c.loop-place.row in
     let x = c.place-item.result in
-    let y = c.in-ok-place.field-0 in
+    let y = c.in_ok-place.field-0 in
     let within : i < length row = omega arith in
     let known = and_parts (m.commands c.args.command) (all_states kind c.args.row.now) c.requires.known in
     let here = one_less kind row i within x c.place-item.is c.loop-place.invariant.2 y in
     let moved = move_next s law i (length c.args.row.now) (omega arith) c.requires.supplied _ c.loop-place.invariant.0 kind m c.args.command x here.0 known.0 in
-    let is : y ≡ m.move x c.args.command (s.to_come i) = cc (c.next_move.ensures.answer, moved, c.in-ok-place.was) in (
+    let is : y ≡ m.move x c.args.command (s.to_come i) = cc (c.next_move.ensures.answer, moved, c.in_ok-place.was) in (
       c.next_move.ensures.rest ∙ left_next s law i (length c.args.row.now) (omega arith) c.requires.supplied _ c.loop-place.invariant.0,
       one_moved m s row i within c.args.command x y c.place-item.is is ∙ c.loop-place.invariant.1,
       here.1,

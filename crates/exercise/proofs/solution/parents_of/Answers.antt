@@ -10,8 +10,8 @@ pub returns : goal.returns
 returns c =
     let ws = c.args.weights.now in
     let u = offset c.args.drawn (total ws) in
-    let old = c.deref-mut.result.now in
-    let granted = parents_granted ws (length old) c.in-ok-write-parents.field-0 c.in-ok-write-parents.ensures.reply in
-    let row : c.write-parents.new.row ≡ parents ws u ++ drop (length ws) old = c.in-ok-write-parents.ensures.row ∙ ap (λ (n : ℕ). parents ws u ++ drop n old) granted.2 in
+    let old = c.deref_mut.result.now in
+    let granted = parents_granted ws (length old) c.in_ok-write_parents.field-0 c.in_ok-write_parents.ensures.reply in
+    let row : c.write_parents.new.row ≡ parents ws u ++ drop (length ws) old = c.in_ok-write_parents.ensures.row ∙ ap (λ (n : ℕ). parents ws u ++ drop n old) granted.2 in
     ap (in_call (λ w. parents ws (offset c.args.drawn w))) (sym granted.0)
-    ∙ ap (λ (l : List ℕ). Ok l) (sym (all_written c.in-ok-parents.parents (length ws) c.write-parents.new.row old (parents ws u) c.in-ok-parents.ensures.len (length-map-range_with_len (parent ws u) 0 (length ws)) c.deref-mut.ensures.value row))
+    ∙ ap (λ (l : List ℕ). Ok l) (sym (all_written c.in_ok-parents.parents (length ws) c.write_parents.new.row old (parents ws u) c.in_ok-parents.ensures.len (length-map-range_with_len (parent ws u) 0 (length ws)) c.deref_mut.ensures.value row))

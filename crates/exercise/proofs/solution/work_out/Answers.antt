@@ -11,21 +11,21 @@ use Rattle.exercise.proofs.solution.work_out.Goals as goal
 ok_same : {E : Type 0} {xs ys : List ℕ} → ◌≡◌ {A = Result (List ℕ) E} (Ok xs) (Ok ys) → xs ≡ ys
 ok_same e = cc
 
-pub returns-in-err-children : goal.returns-in-err-children
-returns-in-err-children c =
+pub returns-in_err-children : goal.returns-in_err-children
+returns-in_err-children c =
     let ws = c.args.weights.now in
-    let ps : parents_of ws c.args.drawn ≡ Ok c.deref.result.now = c.in-ok-parents.ensures ∙ ap (λ (l : List ℕ). Ok l) (sym c.deref.ensures.value) in
-    let p = err_from_is_err_and c.from-residual-in-err-children.result c.from-residual-in-err-children.ensures.1 in
-    rw p.1 (let same : p.0 ≡ c.in-err-children.field-0.0 = p.2 in subst (λ (f : Failure). Yields solution_view (Err f) (answer_of ws c.args.drawn)) (sym same) (only_memory ws c.args.drawn c.in-ok-total.total c.ranges.drawn.fits c.in-ok-total.ensures.value solution_view (answer_of ws c.args.drawn) c.deref.result.now c.in-err-children.field-0.0 ps c.in-err-children.ensures))
+    let ps : parents_of ws c.args.drawn ≡ Ok c.deref.result.now = c.in_ok-parents.ensures ∙ ap (λ (l : List ℕ). Ok l) (sym c.deref.ensures.value) in
+    let p = err_from_is_err_and c.from_residual-in_err-children.result c.from_residual-in_err-children.ensures.1 in
+    rw p.1 (let same : p.0 ≡ c.in_err-children.field-0.0 = p.2 in subst (λ (f : Failure). Yields solution_view (Err f) (answer_of ws c.args.drawn)) (sym same) (only_memory ws c.args.drawn c.in_ok-total.total c.ranges.drawn.fits c.in_ok-total.ensures.value solution_view (answer_of ws c.args.drawn) c.deref.result.now c.in_err-children.field-0.0 ps c.in_err-children.ensures))
 
 pub returns : goal.returns
 returns c =
     let ws = c.args.weights.now in
     let r = c.args.drawn in
-    let w = c.in-ok-total.total in
-    let told : Ok w ≡ _ = c.in-ok-total.ensures.value in
-    let ps : parents_of ws r ≡ Ok (vec_items c.in-ok-parents.parents) = c.in-ok-parents.ensures in
-    let cs : children_of (vec_items c.in-ok-parents.parents) ≡ Ok (vec_items c.in-ok-children.children) = ap children_of (sym c.deref.ensures.value) ∙ c.in-ok-children.ensures in
-    let both : Ok (children_of_each (parents ws (offset r w))) ≡ Ok (vec_items c.in-ok-children.children) = sym (the_children ws r w c.ranges.drawn.fits told _ ps) ∙ cs in
+    let w = c.in_ok-total.total in
+    let told : Ok w ≡ _ = c.in_ok-total.ensures.value in
+    let ps : parents_of ws r ≡ Ok (vec_items c.in_ok-parents.parents) = c.in_ok-parents.ensures in
+    let cs : children_of (vec_items c.in_ok-parents.parents) ≡ Ok (vec_items c.in_ok-children.children) = ap children_of (sym c.deref.ensures.value) ∙ c.in_ok-children.ensures in
+    let both : Ok (children_of_each (parents ws (offset r w))) ≡ Ok (vec_items c.in_ok-children.children) = sym (the_children ws r w c.ranges.drawn.fits told _ ps) ∙ cs in
     ap (in_call (answer ws r)) (sym told)
-    ∙ ap (λ (a : Answer). Ok a) (answer_is w (offset r w) (parents ws (offset r w)) (children_of_each (parents ws (offset r w))) (sym c.offset-of-offset.ensures.value) (sym (the_parents ws r w c.ranges.drawn.fits told _ ps)) (ok_same both))
+    ∙ ap (λ (a : Answer). Ok a) (answer_is w (offset r w) (parents ws (offset r w)) (children_of_each (parents ws (offset r w))) (sym c.offset_of-offset.ensures.value) (sym (the_parents ws r w c.ranges.drawn.fits told _ ps)) (ok_same both))

@@ -16,7 +16,7 @@ loop-line-preserved g c =
       λ p.
           let x = c.loop-line.invariant.0 p in (
             _,
-            has_written_append _ _ _ _ _ _ x.1 (c.in-ok-write-entry.ensures x.1.plain refl),
+            has_written_append _ _ _ _ _ _ x.1 (c.in_ok-write_entry.ensures x.1.plain refl),
             turn obeys c.args.program _ _ (c.loop-line.number + 1) _ _ _ _ _ _ x.2 next.0 (ap (λ r. x.0 ++ entry_text (c.loop-line.number + 1) r) reply) after,
           ),
       states obeys c.args.program _ _ _ _ _ next.0 after ∙ c.loop-line.invariant.1,
