@@ -9,10 +9,10 @@ use sources::Source;
 
 // The next number.
 pub(crate) fn next_number<R: Source>(source: &mut R) -> u32
-    requires { (supply source.old).can 1 ≡ true }
-    ensures value { result ≡ (supply source.old).to_come 0 }
-    ensures rest { supply source.new ≡ after 1 (supply source.old) }
-    ensures same { recorded source.new ≡ recorded source.old }
+    requires { (R.supply source.old).can 1 ≡ true }
+    ensures value { result ≡ (R.supply source.old).to_come 0 }
+    ensures rest { R.supply source.new ≡ after 1 (R.supply source.old) }
+    ensures same { R.recorded source.new ≡ R.recorded source.old }
 {
     let Ok(number) = source.draw() else {
         unreachable()
@@ -22,10 +22,10 @@ pub(crate) fn next_number<R: Source>(source: &mut R) -> u32
 
 // The birth of the next number.
 pub(crate) fn next_birth<M: Model, R: Source>(model: &M, source: &mut R) -> M::State
-    requires { (supply source.old).can 1 ≡ true }
-    ensures value { result ≡ (meaning model.now).birth ((supply source.old).to_come 0) }
-    ensures rest { supply source.new ≡ after 1 (supply source.old) }
-    ensures same { recorded source.new ≡ recorded source.old }
+    requires { (R.supply source.old).can 1 ≡ true }
+    ensures value { result ≡ (M.meaning model.now).birth ((R.supply source.old).to_come 0) }
+    ensures rest { R.supply source.new ≡ after 1 (R.supply source.old) }
+    ensures same { R.recorded source.new ≡ R.recorded source.old }
 {
     model.birth(next_number(source))
 }
@@ -37,10 +37,10 @@ pub(crate) fn next_move<M: Model, R: Source>(
     state: M::State,
     command: u8,
 ) -> M::State
-    requires { (supply source.old).can 1 ≡ true }
-    ensures value { result ≡ guarded_move M.State.State.kind (meaning model.now) state command ((supply source.old).to_come 0) }
-    ensures rest { supply source.new ≡ after 1 (supply source.old) }
-    ensures same { recorded source.new ≡ recorded source.old }
+    requires { (R.supply source.old).can 1 ≡ true }
+    ensures value { result ≡ guarded_move M.State.State.kind (M.meaning model.now) state command ((R.supply source.old).to_come 0) }
+    ensures rest { R.supply source.new ≡ after 1 (R.supply source.old) }
+    ensures same { R.recorded source.new ≡ R.recorded source.old }
 {
     let number = next_number(source);
     let Ok(next) = model.advance(state, command, number) else {
@@ -51,7 +51,7 @@ pub(crate) fn next_move<M: Model, R: Source>(
 
 // The score of a state at the reading; what is no state has score 0.
 pub(crate) fn score_of<M: Model>(model: &M, state: M::State, reading: u8) -> u16
-    ensures { result ≡ guarded_score M.State.State.kind (meaning model.now) state reading }
+    ensures { result ≡ guarded_score M.State.State.kind (M.meaning model.now) state reading }
 {
     let Ok(score) = model.score(state, reading) else {
         return 0;

@@ -111,11 +111,11 @@ impl<S: Copy> Forest<'_, S> {
         requires few { n ≤ 256 }
         requires room { n ≤ self.old.free }
         requires map { HasMap self.old }
-        requires supplied { (supply source.old).can n ≡ true }
-        ensures rest { supply source.new ≡ after n (supply source.old) }
-        ensures same { recorded source.new ≡ recorded source.old }
+        requires supplied { (R.supply source.old).can n ≡ true }
+        ensures rest { R.supply source.new ≡ after n (R.supply source.old) }
+        ensures same { R.recorded source.new ≡ R.recorded source.old }
         ensures free { self.new.free + n ≡ self.old.free }
-        ensures born { Births self.old self.new row.new (λ k. (meaning model.now).birth ((supply source.old).to_come k)) n }
+        ensures born { Births self.old self.new row.new (λ k. (M.meaning model.now).birth ((R.supply source.old).to_come k)) n }
     {
         for i in 0..n {
             let state = next_birth(model, source);
@@ -136,11 +136,11 @@ impl<S: Copy> Forest<'_, S> {
         requires few { n ≤ 256 }
         requires room { n ≤ self.old.free }
         requires map { HasMapAll self.old (take n row.old) }
-        requires supplied { (supply source.old).can n ≡ true }
-        ensures rest { supply source.new ≡ after n (supply source.old) }
-        ensures same { recorded source.new ≡ recorded source.old }
+        requires supplied { (R.supply source.old).can n ≡ true }
+        ensures rest { R.supply source.new ≡ after n (R.supply source.old) }
+        ensures same { R.recorded source.new ≡ R.recorded source.old }
         ensures free { self.new.free + n ≡ self.old.free }
-        ensures moved { Longer self.old self.new row.old row.new (λ k s. guarded_move S.State.kind (meaning model.now) s command ((supply source.old).to_come k)) n n }
+        ensures moved { Longer self.old self.new row.old row.new (λ k s. guarded_move S.State.kind (M.meaning model.now) s command ((R.supply source.old).to_come k)) n n }
     {
         for i in 0..n {
             let parent = row[i];
@@ -163,7 +163,7 @@ impl<S: Copy> Forest<'_, S> {
         requires few { n ≤ 256 }
         requires inside { (i : ℕ) → i < n → slice_index tips.now i < length self.old.nodes.now }
         ensures same { self.new ≡ self.old }
-        ensures scores { (i : ℕ) (d : S) → i < n → slice_index weights.new i ≡ guarded_score S.State.kind (meaning model.now) (slice_index_or (states_of self.old) (slice_index tips.now i) d) reading }
+        ensures scores { (i : ℕ) (d : S) → i < n → slice_index weights.new i ≡ guarded_score S.State.kind (M.meaning model.now) (slice_index_or (states_of self.old) (slice_index tips.now i) d) reading }
         ensures sum { result ≡ total (take n weights.new) }
     {
         let mut sum = 0;

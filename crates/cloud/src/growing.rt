@@ -21,10 +21,10 @@ impl<S: State> Cloud<'_, S> {
         n: u16,
     ) -> Result<Change, Refusal>
         ensures same { elim result [ Ok _ ↦ Unit {0} | Err _ ↦ (self.new ≡ self.old) × (source.new ≡ source.old) ] }
-        ensures count { recorded source.new ≡ recorded source.old }
+        ensures count { R.recorded source.new ≡ R.recorded source.old }
         ensures rest { self.new.rest ≡ self.old.rest }
-        ensures steps { Steps S.State.kind (meaning model.now) (to_start n) (told result) (view self.old) (supply source.old) (view self.new) (supply source.new) }
-        ensures runs { GoesOn S.State.kind (meaning model.now) (to_start n) (told result) (view self.old) (supply source.old) (view self.new) (supply source.new) }
+        ensures steps { Steps S.State.kind (M.meaning model.now) (to_start n) (told result) (view self.old) (R.supply source.old) (view self.new) (R.supply source.new) }
+        ensures runs { GoesOn S.State.kind (M.meaning model.now) (to_start n) (told result) (view self.old) (R.supply source.old) (view self.new) (R.supply source.new) }
     {
         match self.phase {
             Phase::Empty => {}
@@ -60,10 +60,10 @@ impl<S: State> Cloud<'_, S> {
         command: u8,
     ) -> Result<Change, Refusal>
         ensures same { elim result [ Ok _ ↦ Unit {0} | Err _ ↦ (self.new ≡ self.old) × (source.new ≡ source.old) ] }
-        ensures count { recorded source.new ≡ recorded source.old }
+        ensures count { R.recorded source.new ≡ R.recorded source.old }
         ensures rest { self.new.rest ≡ self.old.rest }
-        ensures steps { Steps S.State.kind (meaning model.now) (to_advance command) (told result) (view self.old) (supply source.old) (view self.new) (supply source.new) }
-        ensures runs { GoesOn S.State.kind (meaning model.now) (to_advance command) (told result) (view self.old) (supply source.old) (view self.new) (supply source.new) }
+        ensures steps { Steps S.State.kind (M.meaning model.now) (to_advance command) (told result) (view self.old) (R.supply source.old) (view self.new) (R.supply source.new) }
+        ensures runs { GoesOn S.State.kind (M.meaning model.now) (to_advance command) (told result) (view self.old) (R.supply source.old) (view self.new) (R.supply source.new) }
     {
         match self.phase {
             Phase::Level => {}

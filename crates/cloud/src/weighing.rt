@@ -27,8 +27,8 @@ impl<S: State> Cloud<'_, S> {
     ) -> Result<Weighing, Refusal>
         ensures same { elim result [ Ok _ ↦ Unit {0} | Err _ ↦ self.new ≡ self.old ] }
         ensures rest { self.new.rest ≡ self.old.rest }
-        ensures steps { (q : Supply) → Steps S.State.kind (meaning model.now) (to_weigh reading) (told_weighing result) (view self.old) q (view self.new) q }
-        ensures runs { (q : Supply) → GoesOn S.State.kind (meaning model.now) (to_weigh reading) (told_weighing result) (view self.old) q (view self.new) q }
+        ensures steps { (q : Supply) → Steps S.State.kind (M.meaning model.now) (to_weigh reading) (told_weighing result) (view self.old) q (view self.new) q }
+        ensures runs { (q : Supply) → GoesOn S.State.kind (M.meaning model.now) (to_weigh reading) (told_weighing result) (view self.old) q (view self.new) q }
     {
         match self.phase {
             Phase::Level => {}
@@ -57,10 +57,10 @@ impl<S: State> Cloud<'_, S> {
     // Replaces the particles by as many children, by systematic resampling with one number drawn.
     pub fn resample<R: Source>(&mut self, source: &mut R) -> Result<Change, Refusal>
         ensures same { elim result [ Ok _ ↦ Unit {0} | Err _ ↦ (self.new ≡ self.old) × (source.new ≡ source.old) ] }
-        ensures count { recorded source.new ≡ recorded source.old }
+        ensures count { R.recorded source.new ≡ R.recorded source.old }
         ensures rest { self.new.rest ≡ self.old.rest }
-        ensures steps { (k : Kind S) (m : Meaning S) → Steps k m to_resample (told result) (view self.old) (supply source.old) (view self.new) (supply source.new) }
-        ensures runs { (k : Kind S) (m : Meaning S) → GoesOn k m to_resample (told result) (view self.old) (supply source.old) (view self.new) (supply source.new) }
+        ensures steps { (k : Kind S) (m : Meaning S) → Steps k m to_resample (told result) (view self.old) (R.supply source.old) (view self.new) (R.supply source.new) }
+        ensures runs { (k : Kind S) (m : Meaning S) → GoesOn k m to_resample (told result) (view self.old) (R.supply source.old) (view self.new) (R.supply source.new) }
     {
         match self.phase {
             Phase::Weighed => {}

@@ -11,17 +11,17 @@ use sources::Source;
 
 // The birth of the next number.
 fn next_birth<M: Model, R: Source>(model: &M, source: &mut R) -> Result<M::State, Refusal>
-    ensures answer { result ≡ next_birth (meaning model.now) (supply source.old) }
-    ensures rest { supply source.new ≡ left (supply source.old) }
+    ensures answer { result ≡ next_birth (M.meaning model.now) (R.supply source.old) }
+    ensures rest { R.supply source.new ≡ left (R.supply source.old) }
 {
     Ok(model.birth(source.draw()?))
 }
 
 fn fill<M: Model, R: Source>(model: &M, source: &mut R, row: &mut [M::State]) -> Result<(), Refusal>
-    requires { (supply source.old).can (length row.old) ≡ true }
+    requires { (R.supply source.old).can (length row.old) ≡ true }
     ensures reply { result ≡ Ok tt }
-    ensures row { row.new ≡ births (meaning model.now) (supply source.old) (length row.old) }
-    ensures rest { supply source.new ≡ after (length row.old) (supply source.old) }
+    ensures row { row.new ≡ births (M.meaning model.now) (R.supply source.old) (length row.old) }
+    ensures rest { R.supply source.new ≡ after (length row.old) (R.supply source.old) }
     ensures states { all_states M.State.State.kind row.new ≡ true }
 {
     for place in row.iter_mut() {
@@ -36,9 +36,9 @@ pub fn draw_births<M: Model, R: Source>(
     source: &mut R,
     row: &mut [M::State],
 ) -> Result<usize, Refusal>
-    ensures reply { result ≡ births_reply (supply source.old) (length row.old) }
-    ensures row { row.new ≡ row_after result (births (meaning model.now) (supply source.old) (length row.old)) row.old }
-    ensures rest { supply source.new ≡ supply_after result (supply source.old) }
+    ensures reply { result ≡ births_reply (R.supply source.old) (length row.old) }
+    ensures row { row.new ≡ row_after result (births (M.meaning model.now) (R.supply source.old) (length row.old)) row.old }
+    ensures rest { R.supply source.new ≡ supply_after result (R.supply source.old) }
     ensures refused { is_ok result ≡ false → source.new ≡ source.old }
     ensures states { OnOk result (all_states M.State.State.kind row.new ≡ true) }
 {

@@ -28,8 +28,8 @@ fn next_move<M: Model, R: Source>(
     command: u8,
     state: M::State,
 ) -> Result<M::State, Refusal>
-    ensures answer { result ≡ next_move M.State.State.kind (meaning model.now) command (supply source.old) state }
-    ensures rest { supply source.new ≡ left (supply source.old) }
+    ensures answer { result ≡ next_move M.State.State.kind (M.meaning model.now) command (R.supply source.old) state }
+    ensures rest { R.supply source.new ≡ left (R.supply source.old) }
 {
     model.advance(state, command, source.draw()?)
 }
@@ -40,11 +40,11 @@ fn advance_all<M: Model, R: Source>(
     command: u8,
     row: &mut [M::State],
 ) -> Result<(), Refusal>
-    requires supplied { (supply source.old).can (length row.old) ≡ true }
-    requires known { movable M.State.State.kind (meaning model.now) command row.old ≡ true }
+    requires supplied { (R.supply source.old).can (length row.old) ≡ true }
+    requires known { movable M.State.State.kind (M.meaning model.now) command row.old ≡ true }
     ensures reply { result ≡ Ok tt }
-    ensures row { row.new ≡ moves (meaning model.now) command (supply source.old) row.old }
-    ensures rest { supply source.new ≡ after (length row.old) (supply source.old) }
+    ensures row { row.new ≡ moves (M.meaning model.now) command (R.supply source.old) row.old }
+    ensures rest { R.supply source.new ≡ after (length row.old) (R.supply source.old) }
     ensures states { all_states M.State.State.kind row.new ≡ true }
 {
     for place in row.iter_mut() {
@@ -60,9 +60,9 @@ pub fn draw_moves<M: Model, R: Source>(
     command: u8,
     row: &mut [M::State],
 ) -> Result<usize, Refusal>
-    ensures reply { result ≡ moves_reply M.State.State.kind (meaning model.now) command (supply source.old) row.old }
-    ensures row { row.new ≡ row_after result (moves (meaning model.now) command (supply source.old) row.old) row.old }
-    ensures rest { supply source.new ≡ supply_after result (supply source.old) }
+    ensures reply { result ≡ moves_reply M.State.State.kind (M.meaning model.now) command (R.supply source.old) row.old }
+    ensures row { row.new ≡ row_after result (moves (M.meaning model.now) command (R.supply source.old) row.old) row.old }
+    ensures rest { R.supply source.new ≡ supply_after result (R.supply source.old) }
     ensures refused { is_ok result ≡ false → source.new ≡ source.old }
     ensures states { OnOk result (all_states M.State.State.kind row.new ≡ true) }
 {

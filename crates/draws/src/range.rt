@@ -17,7 +17,7 @@ pub(crate) fn in_range(places: usize) -> bool
 // As many numbers as places, if the source can give them.
 pub(crate) fn numbers_for<R: Source>(source: &R, places: usize) -> Result<usize, Refusal>
     requires { in_range places ≡ true }
-    ensures { result ≡ supplied (supply source.now) places }
+    ensures { result ≡ supplied (R.supply source.now) places }
 {
     if source.can_draw(places as u32) {
         Ok(places)

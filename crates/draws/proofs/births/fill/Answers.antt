@@ -33,7 +33,7 @@ loop-place-preserved g c =
 
 pub returns : goal.returns
 returns g c =
-    let kind = g.State.State.kind in
+    let kind = g.M.State.State.kind in
     let m = g.M.Model.meaning c.args.model.now in
     let s = g.R.Source.supply c.args.source.now in
     let n = length c.args.row.now in

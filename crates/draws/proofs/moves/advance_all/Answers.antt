@@ -11,12 +11,12 @@ pub loop-place-init : goal.loop-place-init
 loop-place-init g c =
     let m = g.M.Model.meaning c.args.model.now in
     let s = g.R.Source.supply c.args.source.now in
-    let known = and_parts (m.commands c.args.command) (all_states g.State.State.kind c.args.row.now) c.requires.known in
+    let known = and_parts (m.commands c.args.command) (all_states g.M.State.State.kind c.args.row.now) c.requires.known in
     (sym (after_none s), none_moved m c.args.command s c.args.row.now, known.1)
 
 pub returns-in_err-place : goal.returns-in_err-place
 returns-in_err-place g c =
-    let kind = g.State.State.kind in
+    let kind = g.M.State.State.kind in
     let m = g.M.Model.meaning c.args.model.now in
     let s = g.R.Source.supply c.args.source.now in
     let i = c.loop-place.place-index in
@@ -30,7 +30,7 @@ returns-in_err-place g c =
 
 pub loop-place-preserved : goal.loop-place-preserved
 loop-place-preserved g c =
-    let kind = g.State.State.kind in
+    let kind = g.M.State.State.kind in
     let m = g.M.Model.meaning c.args.model.now in
     let s = g.R.Source.supply c.args.source.now in
     let i = c.loop-place.place-index in
@@ -50,7 +50,7 @@ loop-place-preserved g c =
 
 pub returns : goal.returns
 returns g c =
-    let kind = g.State.State.kind in
+    let kind = g.M.State.State.kind in
     let m = g.M.Model.meaning c.args.model.now in
     let s = g.R.Source.supply c.args.source.now in
     let i = c.loop-place.place-index in

@@ -10,4 +10,4 @@ invariant-loop-place g l =
     let s = g.R.Source.supply l.initial.source in
     (g.R.Source.supply l.source ≡ after l.place-index s)
     × (take l.place-index l.row ++ moves_from m l.command s l.place-index (drop l.place-index l.row) ≡ moves m l.command s l.initial.row)
-    × (all_states g.State.State.kind (drop l.place-index l.row) ≡ true)
+    × (all_states g.M.State.State.kind (drop l.place-index l.row) ≡ true)
