@@ -1,6 +1,6 @@
 -- Every run that has led to a cloud has its ancestry.
 use Rattle.std.proofs.Common.{◌≡◌, ℕ, ◌+◌, true, false, eqb, List, [], ◌∷◌, Some, None, sym, refl, ap, ◌∙◌, subst, inl, inr, arith}
-use Rattle.std.specs.List.{AllByRecursion as All}
+use Rattle.std.specs.List.{AllByRecursion}
 use Rattle.std.proofs.lemmas.Bool.{false≢true, eqb-true, or_cases}
 use Rattle.sources.specs.Supplies.{Supply}
 use Rattle.models.specs.Meanings.{Meaning}
@@ -35,7 +35,7 @@ module _ {S : Type 0} (P : PathOf S → Type 0) (back : (y x : Pair S) (p : Path
       elim (or_cases (eqb s y.serial) (member s (serials_on (x ∷ p))) e)
       [ inl k ↦ (y, x ∷ p, sym (eqb-true s y.serial k), h) | inr k ↦ find_on (x ∷ p) (back y x p h) k ]
 
-  find : (ps : List (PathOf S)) → All P ps → member s (serials ps) ≡ true → Found
+  find : (ps : List (PathOf S)) → AllByRecursion P ps → member s (serials ps) ≡ true → Found
   find [] h e = absurd (false≢true e)
   find (p ∷ ps) h e =
       elim (or_cases (member s (serials_on p)) (member s (serials ps)) (sym (member_append s (serials_on p) (serials ps)) ∙ e))

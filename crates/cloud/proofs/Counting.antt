@@ -1,6 +1,6 @@
 -- As many serials are in use in the filter as nodes in the tree.
 use Rattle.std.proofs.Common.{◌≡◌, ℕ, zero, suc, ◌+◌, ◌<◌, ◌≤◌, Bool, true, false, ◌||◌, eqb, ◌⊎◌, List, [], ◌∷◌, ◌++◌, map, length, get_or, take, Some, None, sum_by, Option, sym, refl, ap, ◌∙◌, subst, inl, inr, ⊎_elim, arith}
-use Rattle.std.specs.List.{AllByRecursion as All}
+use Rattle.std.specs.List.{AllByRecursion}
 use Rattle.std.proofs.ByRecursion.{All-append}
 use Rattle.std.proofs.lemmas.Bool.Decides.{eqb_tells}
 use Rattle.std.proofs.lemmas.List.Sums.{sum_by-cons}
@@ -50,7 +50,7 @@ unfolding count
 count_total p zero = refl
 count_total p (suc b) = omega (arith, count_total p b, sign_one_if (p b))
 
-members_all : (xs : List ℕ) (b : ℕ) → ((k : ℕ) → member k xs ≡ true → k < b) → All (λ x. x < b) xs
+members_all : (xs : List ℕ) (b : ℕ) → ((k : ℕ) → member k xs ≡ true → k < b) → AllByRecursion (λ x. x < b) xs
 members_all [] b h = tt
 members_all (x ∷ xs) b h = (h x (or_left (eqb x x) (member x xs) (eq-eqb x x refl)), members_all xs b (λ k e. h k (or_right (eqb k x) (member k xs) e)))
 
@@ -58,11 +58,11 @@ members_all (x ∷ xs) b h = (h x (or_left (eqb x x) (member x xs) (eq-eqb x x r
 pub list_count : (xs : List ℕ) (b : ℕ) → ((k : ℕ) → member k xs ≡ true → k < b) → different xs ≡ total (λ k. sign (one_if (member k xs))) b
 list_count xs b h = different_is xs b (members_all xs b h) ∙ count_total (λ s. member s xs) b
 
-pub each_getD : {A : Type 0} (P : A → Type 0) (d : A) (xs : List A) → ((i : ℕ) → i < length xs → P (get_or xs i d)) → All P xs
+pub each_getD : {A : Type 0} (P : A → Type 0) (d : A) (xs : List A) → ((i : ℕ) → i < length xs → P (get_or xs i d)) → AllByRecursion P xs
 each_getD P d [] h = tt
 each_getD P d (x ∷ xs) h = (h 0 (omega arith), each_getD P d xs (λ i l. h (suc i) (omega arith)))
 
-pub each_opened : {S : Type 0} (P : PathOf S → Type 0) (ps : List (Option (PathOf S))) → ((q : ℕ) → q < length ps → (p : PathOf S) → get_or ps q None ≡ Some p → P p) → All P (opened ps)
+pub each_opened : {S : Type 0} (P : PathOf S → Type 0) (ps : List (Option (PathOf S))) → ((q : ℕ) → q < length ps → (p : PathOf S) → get_or ps q None ≡ Some p → P p) → AllByRecursion P (opened ps)
 each_opened P [] h = tt
 each_opened P (None ∷ ps) h = each_opened P ps (λ q l. h (suc q) (omega arith))
 each_opened P (Some p ∷ ps) h = (h 0 (omega arith) p refl, each_opened P ps (λ q l. h (suc q) (omega arith)))
@@ -108,7 +108,7 @@ module _ {S : Type 0} (ls : List Link) (ss : List S) (head : Option ℕ) (free :
         | inr q ↦ track_live_at (link_at ls n).parent p (λ j b. (parent_used ls head free w serial issued t n j l (live n e) b).1) r k (ap (λ b. b || member k (map (λ x. x.serial) p)) (sym q.0) ∙ h)
       ]
 
-  pub serial_live : (ps : List (PathOf S)) → All Tracked ps → (k : ℕ) → member k (serials ps) ≡ true → (n : ℕ) × (n < length ls) × (0 < (link_at ls n).count) × (serial n ≡ k)
+  pub serial_live : (ps : List (PathOf S)) → AllByRecursion Tracked ps → (k : ℕ) → member k (serials ps) ≡ true → (n : ℕ) × (n < length ls) × (0 < (link_at ls n).count) × (serial n ≡ k)
   unfolding Tracked LiveAt
   serial_live [] h k m = absurd (false≢true m)
   serial_live (p ∷ ps) h k m =
@@ -142,7 +142,7 @@ module _ {S : Type 0} (node : ℕ → ℕ) (v : View S) (f : Filter S) (small : 
   particle_w : (i : ℕ) → i < v.n → 0 < named v.tips v.n v.holds (get_or v.tips i 0)
   particle_w i l = particle_named v.tips v.n v.holds i small l
 
-  pub all_tracked : All (Tracked (links v.nodes) (states v.nodes) v.head v.free (named v.tips v.n v.holds) h.serial f.issued h.tree) (all_paths f)
+  pub all_tracked : AllByRecursion (Tracked (links v.nodes) (states v.nodes) v.head v.free (named v.tips v.n v.holds) h.serial f.issued h.tree) (all_paths f)
   unfolding Tracked
   all_tracked = All-append _ f.paths (opened f.places)
       (each_getD _ [] f.paths (λ i l. let l2 : i < v.n = omega (arith, h.number) in (get_or v.tips i 0, particle_w i l2, h.paths_are i l2)))

@@ -1,6 +1,6 @@
 -- On states and known commands and readings, a guarded model is the model.
 use Rattle.std.proofs.Common.{◌≡◌, ℕ, ◌+◌, true, cond, ◌&&◌, List, [], ◌∷◌, map, length, sym, refl, ap, ◌∙◌, subst}
-use Rattle.std.specs.List.{AllByRecursion as All}
+use Rattle.std.specs.List.{AllByRecursion}
 use Rattle.std.proofs.lemmas.Bool.{and_from, cond-true}
 use Rattle.sources.specs.Supplies.{Supply}
 use Rattle.models.specs.Kinds.{Kind}
@@ -21,10 +21,10 @@ use Rattle.cloud.specs.Promises.{Stay, Taken, Follows, Steps}
 
 module _ {S : Type 0} (k : Kind S) (m : Meaning S) where
   abbrev States : List (PathOf S) → Type 0
-  States ps = All (All (λ x. k.is x.state ≡ true)) ps
+  States ps = AllByRecursion (AllByRecursion (λ x. k.is x.state ≡ true)) ps
 
   living_states : (f : Filter S) → OfKind k f → States f.paths
-  living_states f h = (all_split (All (λ x. k.is x.state ≡ true)) f.paths (opened f.places) h).0
+  living_states f h = (all_split (AllByRecursion (λ x. k.is x.state ≡ true)) f.paths (opened f.places) h).0
 
   module _ (f : Filter S) (c : ℕ) (known : m.commands c ≡ true) where
     longer_same : (i : ℕ) (ps : List (PathOf S)) → States ps → all_longer (guarded k m) f c i ps ≡ all_longer m f c i ps

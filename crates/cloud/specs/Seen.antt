@@ -1,6 +1,6 @@
 -- What is seen of a cloud's nodes, and when a cloud shows the paths of a reference filter. Assumes nothing.
 use Rattle.std.specs.Prelude.{◌≡◌, ℕ, ◌<◌, true, cond, List, [], ◌∷◌, map, length, take, is_some, Some, None, count_by, Option, ◌==◌, slice_index, slice_index_or}
-use Rattle.std.specs.List.{AllByRecursion as All}
+use Rattle.std.specs.List.{AllByRecursion}
 use Rattle.sources.specs.Supplies.{Supply}
 use Rattle.filter.specs.declared.phase.Phase.TheVariants.{Weighed}
 use Rattle.filter.specs.Filters.{PathOf, Filter}
@@ -47,7 +47,7 @@ SamePlace node (Some n) (Some p) = Newest node n p
 -- the cloud shows the filter: node gives each serial in use its node
 pub record Shows {S : Type 0} (node : ℕ → ℕ) (v : View S) (q : Supply) (f : Filter S) : Type 0 where
   -- the nodes in use are those on the path of a particle or of an open hold, and no others
-  pub every_path_is_on_nodes : All (OnNodes v.nodes node) (all_paths f)
+  pub every_path_is_on_nodes : AllByRecursion (OnNodes v.nodes node) (all_paths f)
   pub each_serial_has_its_own_node : (a b : ℕ) → live a f ≡ true → live b f ≡ true → node a ≡ node b → a ≡ b
   pub no_other_node_is_in_use : (n : ℕ) (x : Seen S) → seen_at v.nodes n ≡ Some x → (s : ℕ) × (live s f ≡ true) × (node s ≡ n)
   -- particles and holds have the newest nodes of their paths

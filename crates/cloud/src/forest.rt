@@ -1,5 +1,5 @@
 // The ancestry tree over lent memory.
-ghost use Rattle.std.specs.Prelude.{◌≡◌, ℕ, ◌+◌, ◌-◌, ◌^◌, ◌<◌, ◌≤◌, true, length, take, Some, None, sum_by, slice_index, slice_index_or, slice_set};
+ghost use Rattle.std.specs.Prelude.{◌≡◌, ℕ, ◌+◌, ◌-◌, ◌^◌, ◌<◌, ◌≤◌, true, length, take, min, Some, None, sum_by, slice_index, slice_index_or, slice_set};
 ghost use Rattle.cloud.specs.Links.{link_at, linked, raised, Kept};
 ghost use Rattle.cloud.specs.Trees.{Tree, is_node, is_named, with_serial};
 ghost use Rattle.sources.specs.Supplies.{after};
@@ -23,15 +23,20 @@ pub(crate) struct Forest<'a, S> {
     pub(crate) free: usize,
 }
 
-// A tree with no node in use.
+// A tree with no node in use, over the first 65,536 nodes at most.
 pub(crate) fn make<S>(nodes: &mut [Node<S>]) -> Forest<S>
-    requires { length nodes.old ≤ 65536 }
-    ensures size { length result.nodes.now ≡ length nodes.old }
+    ensures size { length result.nodes.now ≡ min (length nodes.old) 65536 }
     ensures tree { (serial : ℕ → ℕ) → IsTree result (λ _. 0) serial 0 }
 {
-    let free = nodes.len();
-    let head = make_free(nodes);
-    Forest { nodes, head, free }
+    let all = nodes.len();
+    let n = if all < 65536 { all } else { 65536 };
+    let part = &mut nodes[0..n];
+    let head = make_free(part);
+    Forest {
+        nodes: part,
+        head,
+        free: n,
+    }
 }
 
 impl<S: Copy> Forest<'_, S> {

@@ -1,6 +1,6 @@
 -- An exercise is read exactly when it is written. Assumes nothing.
 use Rattle.std.proofs.Common.{◌≡◌, ℕ, ◌+◌, ◌<◌, ◌≤◌, Bool, true, false, cond, ltb, ◌⊎◌, List, [], ◌∷◌, ◌++◌, length, IfOk, Some, None, Ok, Err, vec_items, Option, Result, sym, refl, ap, ◌∙◌, subst, inl, inr, append_assoc, arith, ltb-false, le-ltb}
-use Rattle.std.specs.List.{AllByRecursion as All}
+use Rattle.std.specs.List.{AllByRecursion}
 use Rattle.std.specs.Str.{all_ascii_digits}
 use Rattle.std.proofs.ByRecursion.{All-append}
 use Rattle.std.proofs.lemmas.List.{append-nil, append_cancel_right}
@@ -23,13 +23,13 @@ use Rattle.exercise.specs.Written.{Written}
 apart : {X Y : Type 0} (y : Y) (f : Fault) → ◌≡◌ {A = Result Y Fault} (Err f) (Ok y) → X
 apart y f h = let z : ◌≡◌ {A = ℕ} 0 1 = cc in absurd (omega arith)
 
-numerals_lack : (c limit : ℕ) (fs : List (List ℕ)) (ns : List ℕ) → c < 48 → Numerals limit fs ns → All (Lacks c) fs
+numerals_lack : (c limit : ℕ) (fs : List (List ℕ)) (ns : List ℕ) → c < 48 → Numerals limit fs ns → AllByRecursion (Lacks c) fs
 numerals_lack c limit [] [] h e = tt
 numerals_lack c limit [] (n ∷ ns) h e = tt
 numerals_lack c limit (f ∷ fs) [] h e = absurd e
 numerals_lack c limit (f ∷ fs) (n ∷ ns) h e = (digits_lack c f h e.0.only_digits, numerals_lack c limit fs ns h e.1)
 
-join_lacks : (c d : ℕ) (fs : List (List ℕ)) → (d ≡ c → ⊥) → All (Lacks c) fs → Lacks c (join_by d fs)
+join_lacks : (c d : ℕ) (fs : List (List ℕ)) → (d ≡ c → ⊥) → AllByRecursion (Lacks c) fs → Lacks c (join_by d fs)
 join_lacks c d [] ne e = tt
 join_lacks c d (f ∷ []) ne e = e.0
 join_lacks c d (f ∷ g ∷ fs) ne e = All-append (λ b. b ≡ c → ⊥) f (d ∷ join_by d (g ∷ fs)) e.0 (ne, join_lacks c d (g ∷ fs) ne e.1)
@@ -120,7 +120,7 @@ two_pieces : (bs a b : List ℕ) → Lacks 10 a → Lacks 10 b → 0 < length b 
 two_pieces bs a b la lb some (inl e) = ap lines (e ∙ sym (ap (λ l. l ++ b) (append-nil (a ++ (10 ∷ []))) ∙ append_assoc a (10 ∷ []) b)) ∙ (lines_alone (a ∷ []) b (la, tt) lb).1 some
 two_pieces bs a b la lb some (inr e) = ap lines (e ∙ sym (ended a b)) ∙ (lines_alone (a ∷ b ∷ []) [] (la, (lb, tt)) tt).0
 
-joined_fields : (fs : List (List ℕ)) → 0 < length fs → All (Lacks 44) fs → fields (join_by 44 fs) ≡ fs
+joined_fields : (fs : List (List ℕ)) → 0 < length fs → AllByRecursion (Lacks 44) fs → fields (join_by 44 fs) ≡ fs
 joined_fields [] some l = absurd (omega arith)
 joined_fields (f ∷ fs) some l = fields_alone f fs l
 

@@ -1,7 +1,7 @@
 -- The pieces between separators, joined again. Assumes nothing.
 use Rattle.std.proofs.Common.{◌≡◌, ℕ, suc, ◌<◌, Bool, true, false, cond, eqb, ◌⊎◌, List, [], ◌∷◌, ◌++◌, length, sym, refl, ap, ◌∙◌, subst, inl, inr, append_assoc, not-suc-le-zero, arith, eq-eqb, ne_eqb, eqb-true}
 use borrow.Author.Tests.{eqb-false}
-use Rattle.std.specs.List.{AllByRecursion as All}
+use Rattle.std.specs.List.{AllByRecursion}
 use Rattle.std.proofs.lemmas.List.{append-nil}
 use Rattle.fields.specs.Cuts.{onto, pieces, fields, lines, front, after, fields_in, lines_in}
 use Rattle.fields.specs.Laws.{join_by, end_by, Lacks, FieldsJoin, FieldsAlone, LinesJoin, LinesAlone}
@@ -29,7 +29,7 @@ last_line (b ∷ x ∷ xs) l some = ap (λ t. cond t ([] ∷ lines (x ∷ xs)) (
 
 -- what fields are joined of
 Whole : List ℕ → List (List ℕ) → Type 0
-Whole bs fs = (join_by 44 fs ≡ bs) × All (Lacks 44) fs
+Whole bs fs = (join_by 44 fs ≡ bs) × AllByRecursion (Lacks 44) fs
 
 pub fields_join : FieldsJoin
 unfolding Whole
@@ -49,7 +49,7 @@ fields_alone p (q ∷ ps) l = next_piece ([] ∷ []) 44 p (join_by 44 (q ∷ ps)
 
 -- what lines are ended of
 Ended : List ℕ → List (List ℕ) → Type 0
-Ended bs ls = ((end_by 10 ls ≡ bs) ⊎ (end_by 10 ls ≡ bs ++ (10 ∷ []))) × All (Lacks 10) ls
+Ended bs ls = ((end_by 10 ls ≡ bs) ⊎ (end_by 10 ls ≡ bs ++ (10 ∷ []))) × AllByRecursion (Lacks 10) ls
 
 ended_nil : (bs : List ℕ) (ls : List (List ℕ)) → Ended bs ls → Ended (10 ∷ bs) ([] ∷ ls)
 unfolding Ended
@@ -81,7 +81,7 @@ lines_join (b ∷ x ∷ xs) = go (eqb b 10) refl (lines_join (x ∷ xs))
         (ended_onto b bs (front 10 bs) (lines_in (after 10 bs)) (eqb-false b 10 e) (subst (Ended bs) (lines_cut x xs) ih))
 
 -- lines before more text
-lines_before : (ls : List (List ℕ)) (rest : List ℕ) → All (Lacks 10) ls → lines (end_by 10 ls ++ rest) ≡ ls ++ lines rest
+lines_before : (ls : List (List ℕ)) (rest : List ℕ) → AllByRecursion (Lacks 10) ls → lines (end_by 10 ls ++ rest) ≡ ls ++ lines rest
 lines_before [] rest l = refl
 lines_before (p ∷ ps) rest l =
     ap lines (append_assoc (p ++ (10 ∷ [])) (end_by 10 ps) rest ∙ append_assoc p (10 ∷ []) (end_by 10 ps ++ rest))

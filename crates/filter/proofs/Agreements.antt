@@ -1,7 +1,7 @@
 -- Paths that have the same serial are the same from there back. Assumes nothing.
 use Rattle.std.proofs.Common.{◌≡◌, ℕ, zero, suc, ◌+◌, ◌<◌, ◌≤◌, List, [], ◌∷◌, ◌++◌, length, get_or, sym, ap, ◌∙◌, subst, le_of_suc-le-suc, not-suc-le-zero, arith}
 use lib.ListN.{length-map}
-use Rattle.std.specs.List.{AllByRecursion as All}
+use Rattle.std.specs.List.{AllByRecursion}
 use Rattle.std.proofs.lemmas.List.FromFn.{length-map-range_with_len, get_or-map-range_with_len}
 use Rattle.std.proofs.ByRecursion.{All-append, All-get_or, All-from_get_or, All-weaker}
 use Rattle.models.specs.Meanings.{Meaning}
@@ -36,26 +36,26 @@ module _ {S : Type 0} where
   agree_nothing r i j hi hj e = absurd (not-suc-le-zero hi)
 
   -- new paths that agree, beside old ones
-  pub agree_beside : (ns hs : List (PathOf S)) → AllAgree ns → All (λ n. All (Agree n) hs) ns → AllAgree hs → AllAgree (ns ++ hs)
+  pub agree_beside : (ns hs : List (PathOf S)) → AllAgree ns → AllByRecursion (λ n. AllByRecursion (Agree n) hs) ns → AllAgree hs → AllAgree (ns ++ hs)
   agree_beside ns hs nn nh hh =
-      All-append (λ p. All (Agree p) (ns ++ hs)) ns hs
-      (All-weaker (λ p. All (Agree p) ns × All (Agree p) hs) (λ p. All (Agree p) (ns ++ hs)) (λ p h. All-append (Agree p) ns hs h.0 h.1) ns (all_both (λ p. All (Agree p) ns) (λ p. All (Agree p) hs) ns nn nh))
-      (All-weaker (λ p. All (Agree p) ns × All (Agree p) hs) (λ p. All (Agree p) (ns ++ hs)) (λ p h. All-append (Agree p) ns hs h.0 h.1) hs (all_both (λ p. All (Agree p) ns) (λ p. All (Agree p) hs) hs (turned ns hs nh) hh))
+      All-append (λ p. AllByRecursion (Agree p) (ns ++ hs)) ns hs
+      (All-weaker (λ p. AllByRecursion (Agree p) ns × AllByRecursion (Agree p) hs) (λ p. AllByRecursion (Agree p) (ns ++ hs)) (λ p h. All-append (Agree p) ns hs h.0 h.1) ns (all_both (λ p. AllByRecursion (Agree p) ns) (λ p. AllByRecursion (Agree p) hs) ns nn nh))
+      (All-weaker (λ p. AllByRecursion (Agree p) ns × AllByRecursion (Agree p) hs) (λ p. AllByRecursion (Agree p) (ns ++ hs)) (λ p h. All-append (Agree p) ns hs h.0 h.1) hs (all_both (λ p. AllByRecursion (Agree p) ns) (λ p. AllByRecursion (Agree p) hs) hs (turned ns hs nh) hh))
     where
-      row : (h : PathOf S) (ns : List (PathOf S)) → All (λ n. Agree n h) ns → All (Agree h) ns
+      row : (h : PathOf S) (ns : List (PathOf S)) → AllByRecursion (λ n. Agree n h) ns → AllByRecursion (Agree h) ns
       row h ns a = All-weaker (λ n. Agree n h) (Agree h) (λ n. agree_sym n h) ns a
 
-      turned : (ns hs : List (PathOf S)) → All (λ n. All (Agree n) hs) ns → All (λ h. All (Agree h) ns) hs
+      turned : (ns hs : List (PathOf S)) → AllByRecursion (λ n. AllByRecursion (Agree n) hs) ns → AllByRecursion (λ h. AllByRecursion (Agree h) ns) hs
       turned ns [] a = tt
       turned ns (h ∷ hs) a = (
-        row h ns (All-weaker (λ n. All (Agree n) (h ∷ hs)) (λ n. Agree n h) (λ n k. k.0) ns a),
-        turned ns hs (All-weaker (λ n. All (Agree n) (h ∷ hs)) (λ n. All (Agree n) hs) (λ n k. k.1) ns a),
+        row h ns (All-weaker (λ n. AllByRecursion (Agree n) (h ∷ hs)) (λ n. Agree n h) (λ n k. k.0) ns a),
+        turned ns hs (All-weaker (λ n. AllByRecursion (Agree n) (h ∷ hs)) (λ n. AllByRecursion (Agree n) hs) (λ n k. k.1) ns a),
       )
 
   pub agree_among : (f f' : Filter S) → Among f f' → AllAgree (all_paths f) → AllAgree (all_paths f')
   agree_among f f' a h =
-      among (λ p. All (Agree p) (all_paths f')) f f' a
-      (All-weaker (λ p. All (Agree p) (all_paths f)) (λ p. All (Agree p) (all_paths f')) (λ p k. among (Agree p) f f' a k) (all_paths f) h)
+      among (λ p. AllByRecursion (Agree p) (all_paths f')) f f' a
+      (All-weaker (λ p. AllByRecursion (Agree p) (all_paths f)) (λ p. AllByRecursion (Agree p) (all_paths f')) (λ p k. among (Agree p) f f' a k) (all_paths f) h)
 
 module _ {S : Type 0} (m : Meaning S) (f : Filter S) where
   -- births
@@ -65,7 +65,7 @@ module _ {S : Type 0} (m : Meaning S) (f : Filter S) where
 
   pub births_agree : (n : ℕ) → AllAgree (births m f n)
   births_agree n =
-      All-from_get_or (λ p. All (Agree p) (births m f n)) (births m f n) []
+      All-from_get_or (λ p. AllByRecursion (Agree p) (births m f n)) (births m f n) []
       (λ i hi. All-from_get_or (Agree (get_or (births m f n) i [])) (births m f n) []
       (λ j hj.
       let li : i < n = rw (length-map-range_with_len (born m f) 0 n) at hi in
@@ -73,12 +73,12 @@ module _ {S : Type 0} (m : Meaning S) (f : Filter S) where
       subst (λ (p : PathOf S). Agree p (get_or (births m f n) j [])) (sym (get_or-map-range_with_len (born m f) 0 n i i [] li (omega arith)))
       (subst (λ (p : PathOf S). Agree (born m f i) p) (sym (get_or-map-range_with_len (born m f) 0 n j j [] lj (omega arith))) (born_agree i j))))
 
-  pub births_agree_old : (n : ℕ) (hs : List (PathOf S)) → All (Low f.issued) hs → All (λ p. All (Agree p) hs) (births m f n)
+  pub births_agree_old : (n : ℕ) (hs : List (PathOf S)) → AllByRecursion (Low f.issued) hs → AllByRecursion (λ p. AllByRecursion (Agree p) hs) (births m f n)
   births_agree_old n hs l =
-      All-from_get_or (λ p. All (Agree p) hs) (births m f n) []
+      All-from_get_or (λ p. AllByRecursion (Agree p) hs) (births m f n) []
       (λ i hi.
       let li : i < n = rw (length-map-range_with_len (born m f) 0 n) at hi in
-      subst (λ (p : PathOf S). All (Agree p) hs) (sym (get_or-map-range_with_len (born m f) 0 n i i [] li (omega arith)))
+      subst (λ (p : PathOf S). AllByRecursion (Agree p) hs) (sym (get_or-map-range_with_len (born m f) 0 n i i [] li (omega arith)))
       (All-weaker (Low f.issued) (Agree (born m f i)) (λ h k. agree_old f.issued _ [] h (omega arith) k (agree_nothing h)) hs l))
 
   -- moves
@@ -102,9 +102,9 @@ module _ {S : Type 0} (m : Meaning S) (f : Filter S) where
     getD_longer k (p ∷ ps) zero h = ap (λ (n : ℕ). longer m f c n p) (let e : k ≡ k + 0 = omega arith in e)
     getD_longer k (p ∷ ps) (suc i) h = getD_longer (k + 1) ps i (le_of_suc-le-suc h) ∙ ap (λ (n : ℕ). longer m f c n (get_or ps i [])) (let e : k + 1 + i ≡ k + suc i = omega arith in e)
 
-    pub all_longer_agree : (ps : List (PathOf S)) → All (Low f.issued) ps → AllAgree ps → AllAgree (all_longer m f c 0 ps)
+    pub all_longer_agree : (ps : List (PathOf S)) → AllByRecursion (Low f.issued) ps → AllAgree ps → AllAgree (all_longer m f c 0 ps)
     all_longer_agree ps l a =
-        All-from_get_or (λ p. All (Agree p) (all_longer m f c 0 ps)) (all_longer m f c 0 ps) []
+        All-from_get_or (λ p. AllByRecursion (Agree p) (all_longer m f c 0 ps)) (all_longer m f c 0 ps) []
         (λ i hi. All-from_get_or (Agree (get_or (all_longer m f c 0 ps) i [])) (all_longer m f c 0 ps) []
         (λ j hj.
         let li : i < length ps = rw (length-longer m f c 0 ps) at hi in
@@ -113,9 +113,9 @@ module _ {S : Type 0} (m : Meaning S) (f : Filter S) where
         (subst (λ (p : PathOf S). Agree (longer m f c (0 + i) (get_or ps i [])) p) (sym (getD_longer 0 ps j lj))
         (longer_agree (0 + i) (0 + j) (get_or ps i []) (get_or ps j []) (All-get_or (Low f.issued) ps i [] li l) (All-get_or (Low f.issued) ps j [] lj l)
         (λ e. ap (λ (n : ℕ). get_or ps n []) (let k : i ≡ j = omega arith in k))
-        (All-get_or (Agree (get_or ps i [])) ps j [] lj (All-get_or (λ p. All (Agree p) ps) ps i [] li a))))))
+        (All-get_or (Agree (get_or ps i [])) ps j [] lj (All-get_or (λ p. AllByRecursion (Agree p) ps) ps i [] li a))))))
 
-    pub all_longer_agree_old : (k : ℕ) (ps hs : List (PathOf S)) → All (Low f.issued) hs → All (λ p. All (Agree p) hs) ps → All (λ p. All (Agree p) hs) (all_longer m f c k ps)
+    pub all_longer_agree_old : (k : ℕ) (ps hs : List (PathOf S)) → AllByRecursion (Low f.issued) hs → AllByRecursion (λ p. AllByRecursion (Agree p) hs) ps → AllByRecursion (λ p. AllByRecursion (Agree p) hs) (all_longer m f c k ps)
     all_longer_agree_old k [] hs l a = tt
     all_longer_agree_old k (p ∷ ps) hs l a = (
       All-weaker (λ h. Low f.issued h × Agree p h) (Agree (longer m f c k p)) (λ h w. longer_agree_old k p h w.0 w.1) hs (all_both (Low f.issued) (Agree p) hs l a.0),

@@ -1,24 +1,24 @@
 -- What holds of each element of a list, and of each open place. Assumes nothing.
 use Rattle.std.proofs.Common.{ℕ, zero, suc, ◌+◌, ◌<◌, ◌≤◌, List, [], ◌∷◌, ◌++◌, set, Some, None, Option, arith}
-use Rattle.std.specs.List.{range_with_len, AllByRecursion as All}
+use Rattle.std.specs.List.{range_with_len, AllByRecursion}
 use Rattle.filter.specs.Filters.{PathOf}
 use Rattle.filter.specs.Uses.{opened}
 
-pub all_split : {A : Type 0} (P : A → Type 0) (xs ys : List A) → All P (xs ++ ys) → All P xs × All P ys
+pub all_split : {A : Type 0} (P : A → Type 0) (xs ys : List A) → AllByRecursion P (xs ++ ys) → AllByRecursion P xs × AllByRecursion P ys
 all_split P [] ys h = (tt, h)
 all_split P (x ∷ xs) ys h = let r = all_split P xs ys h.1 in ((h.0, r.0), r.1)
 
-pub all_both : {A : Type 0} (P Q : A → Type 0) (xs : List A) → All P xs → All Q xs → All (λ x. P x × Q x) xs
+pub all_both : {A : Type 0} (P Q : A → Type 0) (xs : List A) → AllByRecursion P xs → AllByRecursion Q xs → AllByRecursion (λ x. P x × Q x) xs
 all_both P Q [] h k = tt
 all_both P Q (x ∷ xs) h k = ((h.0, k.0), all_both P Q xs h.1 k.1)
 
-pub all_counting : (P : ℕ → Type 0) (k n : ℕ) → ((i : ℕ) → k ≤ i → i < k + n → P i) → All P (range_with_len k n)
+pub all_counting : (P : ℕ → Type 0) (k n : ℕ) → ((i : ℕ) → k ≤ i → i < k + n → P i) → AllByRecursion P (range_with_len k n)
 all_counting P k zero h = tt
 all_counting P k (suc n) h = (h k (omega arith) (omega arith), all_counting P (k + 1) n (λ i l u. h i (omega arith) (omega arith)))
 
 module _ {S : Type 0} (P : PathOf S → Type 0) where
   -- a path more in a place
-  pub all_opened : (ps : List (Option (PathOf S))) (i : ℕ) (p : PathOf S) → P p → All P (opened ps) → All P (opened (set ps i (Some p)))
+  pub all_opened : (ps : List (Option (PathOf S))) (i : ℕ) (p : PathOf S) → P p → AllByRecursion P (opened ps) → AllByRecursion P (opened (set ps i (Some p)))
   all_opened [] i p h k = k
   all_opened (None ∷ ps) zero p h k = (h, k)
   all_opened (Some r ∷ ps) zero p h k = (h, k.1)
@@ -26,7 +26,7 @@ module _ {S : Type 0} (P : PathOf S → Type 0) where
   all_opened (Some r ∷ ps) (suc i) p h k = (k.0, all_opened ps i p h k.1)
 
   -- a place closed
-  pub all_closed : (ps : List (Option (PathOf S))) (i : ℕ) → All P (opened ps) → All P (opened (set ps i None))
+  pub all_closed : (ps : List (Option (PathOf S))) (i : ℕ) → AllByRecursion P (opened ps) → AllByRecursion P (opened (set ps i None))
   all_closed [] i k = k
   all_closed (None ∷ ps) zero k = k
   all_closed (Some r ∷ ps) zero k = k.1

@@ -1,6 +1,6 @@
 -- How many different numbers a list has. Assumes nothing.
 use Rattle.std.proofs.Common.{◌≡◌, ℕ, zero, suc, ◌+◌, ◌<◌, ◌≤◌, Bool, true, false, cond, ◌||◌, eqb, ◌⊎◌, List, [], ◌∷◌, ◌++◌, sym, refl, ap, ◌∙◌, inl, inr, zero-le, not-suc-le-zero, add-zero, add-suc, arith}
-use Rattle.std.specs.List.{AllByRecursion as All}
+use Rattle.std.specs.List.{AllByRecursion}
 use Rattle.std.proofs.lemmas.Bool.{ne_eqb}
 use Rattle.std.proofs.lemmas.Bool.Decides.{eqb_tells}
 use Rattle.filter.specs.Uses.{member, different}
@@ -67,7 +67,7 @@ count_or p x (suc b) h = go (eqb_tells b x) (λ l. count_or p x b l)
         omega (arith, ih (omega arith), ap (λ t. one_if (t || p b)) e.0)
 
 -- the different ones of numbers below the bound are the members below it
-pub different_is : (xs : List ℕ) (b : ℕ) → All (λ x. x < b) xs → different xs ≡ count (λ s. member s xs) b
+pub different_is : (xs : List ℕ) (b : ℕ) → AllByRecursion (λ x. x < b) xs → different xs ≡ count (λ s. member s xs) b
 different_is [] b h = sym (count_none b)
 different_is (x ∷ xs) b h = ap (λ n. cond (member x xs) 0 1 + n) (different_is xs b h.1) ∙ sym (count_or (λ s. member s xs) x b h.0)
 

@@ -1,6 +1,6 @@
 -- Every state on a path descends, call by call. Assumes nothing.
 use Rattle.std.proofs.Common.{◌≡◌, ℕ, ◌+◌, ◌≤◌, List, [], ◌∷◌, length, None, sym, refl, ap, ◌∙◌, inl, inr, add_comm, arith}
-use Rattle.std.specs.List.{range_with_len, AllByRecursion as All}
+use Rattle.std.specs.List.{range_with_len, AllByRecursion}
 use Rattle.std.proofs.ByRecursion.{All-append, All-map, All-weaker}
 use Rattle.sources.specs.Supplies.{Supply, after}
 use Rattle.models.specs.Meanings.{Meaning}
@@ -24,7 +24,7 @@ module _ {S : Type 0} (m : Meaning S) (q : Supply) where
   descends_more g gs (x ∷ []) h = inr h
   descends_more g gs (y ∷ x ∷ p) h = (inr h.0, descends_more g gs (x ∷ p) h.1)
 
-  pub all_more : (g : Making) (gs : List Making) (ps : List (PathOf S)) → All (Descends m q.to_come gs) ps → All (Descends m q.to_come (g ∷ gs)) ps
+  pub all_more : (g : Making) (gs : List Making) (ps : List (PathOf S)) → AllByRecursion (Descends m q.to_come gs) ps → AllByRecursion (Descends m q.to_come (g ∷ gs)) ps
   all_more g gs ps h = All-weaker (Descends m q.to_come gs) (Descends m q.to_come (g ∷ gs)) (descends_more g gs) ps h
 
   module _ (f : Filter S) (s : Sound f) (d : ℕ) (drawn : f.source ≡ after d q) (b : ℕ) (count : f.issued ≡ b) (i : ℕ) (gs : List Making) where
@@ -35,7 +35,7 @@ module _ {S : Type 0} (m : Meaning S) (q : Supply) where
     number : (k : ℕ) → f.source.to_come k ≡ q.to_come (d + k)
     number k = ap (λ (z : Supply). z.to_come k) drawn ∙ ap q.to_come (add_comm k d)
 
-    born_descend : (n : ℕ) → i ≡ n → All (Descends m q.to_come (made (start n) ∷ gs)) (births m f n)
+    born_descend : (n : ℕ) → i ≡ n → AllByRecursion (Descends m q.to_come (made (start n) ∷ gs)) (births m f n)
     born_descend n e =
         All-map (Descends m q.to_come (made (start n) ∷ gs)) (born m f) (range_with_len 0 n)
         (all_counting (λ k. Descends m q.to_come (made (start n) ∷ gs) (born m f k)) 0 n (λ k l u. inl (record {
@@ -46,7 +46,7 @@ module _ {S : Type 0} (m : Meaning S) (q : Supply) where
           state_is = ap m.birth (number k);
         })))
 
-    longer_descend : (c k : ℕ) (ps : List (PathOf S)) → k + length ps ≤ i → All (Descends m q.to_come gs) ps → All (Descends m q.to_come (made (advance c) ∷ gs)) (all_longer m f c k ps)
+    longer_descend : (c k : ℕ) (ps : List (PathOf S)) → k + length ps ≤ i → AllByRecursion (Descends m q.to_come gs) ps → AllByRecursion (Descends m q.to_come (made (advance c) ∷ gs)) (all_longer m f c k ps)
     longer_descend c k [] l h = tt
     longer_descend c k ([] ∷ ps) l h = absurd h.0
     longer_descend c k ((x ∷ p) ∷ ps) l h = (
@@ -64,8 +64,8 @@ module _ {S : Type 0} (m : Meaning S) (q : Supply) where
       longer_descend c (k + 1) ps (omega arith) h.1,
     )
 
-    pub descends_granted : (call : Call) (place : ℕ) → refusal m f call ≡ None → i ≡ issued_by f call → All (Descends m q.to_come gs) (all_paths f)
-        → All (Descends m q.to_come (made call ∷ gs)) (all_paths (granted m f call place))
+    pub descends_granted : (call : Call) (place : ℕ) → refusal m f call ≡ None → i ≡ issued_by f call → AllByRecursion (Descends m q.to_come gs) (all_paths f)
+        → AllByRecursion (Descends m q.to_come (made call ∷ gs)) (all_paths (granted m f call place))
     descends_granted (start n) place e c h =
         All-append (Descends m q.to_come (made (start n) ∷ gs)) (births m f n) (opened f.places) (born_descend n c)
         (all_more (made (start n)) gs (opened f.places) (all_split (Descends m q.to_come gs) f.paths (opened f.places) h).1)

@@ -1,6 +1,6 @@
 -- What stands after every run. Assumes nothing.
 use Rattle.std.proofs.Common.{◌≡◌, ℕ, ◌+◌, ◌≤◌, true, List, [], ◌∷◌, Some, None, Option, sym, refl, ap, ◌∙◌, subst, add-zero, arith}
-use Rattle.std.specs.List.{AllByRecursion as All}
+use Rattle.std.specs.List.{AllByRecursion}
 use Rattle.std.proofs.lemmas.Bool.{false≢true}
 use Rattle.refusals.specs.declared.Refusal.{Refusal}
 use Rattle.resampling.specs.Children.{Fair}
@@ -83,8 +83,8 @@ module _ {S : Type 0} (m : Meaning S) (f : Filter S) (s : Sound f) (call : Call)
       sym (after_none f.source) ∙ ap (λ (n : ℕ). after n f.source) (sym (nothing_drawn call x)) ∙ ap (λ (t : Reply). after (drawn_in call t) f.source) (sym w)
 
   descends_settled : (q : Supply) (d : ℕ) → f.source ≡ after d q → (b : ℕ) → f.issued ≡ b → (gs : List Making) → (r : Option Refusal) → refusal m f call ≡ r → ToldBy r
-      → All (Descends m q.to_come gs) (all_paths f)
-      → All (Descends m q.to_come (record { call = call; count = told_issued told; first_serial = b; first_draw = d } ∷ gs)) (all_paths (settle r (granted m f call place) f))
+      → AllByRecursion (Descends m q.to_come gs) (all_paths f)
+      → AllByRecursion (Descends m q.to_come (record { call = call; count = told_issued told; first_serial = b; first_draw = d } ∷ gs)) (all_paths (settle r (granted m f call place) f))
   descends_settled q d drawn b count gs None e w h = descends_granted m q f s d drawn b count (told_issued told) gs call place e (ap told_issued w) h
   descends_settled q d drawn b count gs (Some x) e w h = all_more m q _ gs (all_paths f) h
 
@@ -126,7 +126,7 @@ module _ {S : Type 0} (m : Meaning S) (f₀ : Filter S) (s₀ : Sound f₀) wher
       ∙ ap (after (drawn_in t.call t.told)) (left ts w.0)
       ∙ after_after f₀.source (drawn_in t.call t.told) (all_drawn ts)
 
-  within : (ts : List Turn) → Told m f₀ ts → All (Within (all_issued ts) (all_drawn ts)) (makings ts)
+  within : (ts : List Turn) → Told m f₀ ts → AllByRecursion (Within (all_issued ts) (all_drawn ts)) (makings ts)
   within [] w = tt
   within (t ∷ ts) w =
       let f : Filter S = reached m f₀ ts in
@@ -139,7 +139,7 @@ module _ {S : Type 0} (m : Meaning S) (f₀ : Filter S) (s₀ : Sound f₀) wher
   apart [] w = tt
   apart (t ∷ ts) w = apart_more (makings ts) (making t ts) (within ts w.0) (apart ts w.0)
 
-  descends : (ts : List Turn) → Told m f₀ ts → f₀.issued ≡ 0 → All (Descends m f₀.source.to_come []) (all_paths f₀) → All (Descends m f₀.source.to_come (makings ts)) (all_paths (reached m f₀ ts))
+  descends : (ts : List Turn) → Told m f₀ ts → f₀.issued ≡ 0 → AllByRecursion (Descends m f₀.source.to_come []) (all_paths f₀) → AllByRecursion (Descends m f₀.source.to_come (makings ts)) (all_paths (reached m f₀ ts))
   descends [] w u h = h
   descends (t ∷ ts) w u h =
       let f : Filter S = reached m f₀ ts in

@@ -1,6 +1,6 @@
 -- What a granted call tells of the filter before it. Assumes nothing.
 use Rattle.std.proofs.Common.{◌≡◌, ℕ, ◌+◌, ◌<◌, ◌≤◌, Bool, true, false, [], map, length, Some, None, Option, sym, refl, ap, ◌∙◌, zero-add, arith}
-use Rattle.std.specs.List.{AllByRecursion as All}
+use Rattle.std.specs.List.{AllByRecursion}
 use Rattle.std.proofs.ByRecursion.{All-get_or, All-from_get_or, All-map, All-weaker}
 use Rattle.std.proofs.lemmas.Bool.{ltb-true, leb-true}
 use Rattle.refusals.specs.declared.Refusal.{Refusal}
@@ -137,13 +137,13 @@ module _ {S : Type 0} (m : Meaning S) (f : Filter S) where
   pub count_parents : Resamples → length (parents_now f) ≡ length f.paths
   count_parents r = r.marked.count ∙ r.weights_all
 
-  parents_within : Resamples → All (λ i. i < length f.paths) (parents_now f)
+  parents_within : Resamples → AllByRecursion (λ i. i < length f.paths) (parents_now f)
   parents_within r =
       All-from_get_or (λ i. i < length f.paths) (parents_now f) 0
       (λ k h. omega (arith, r.weights_all, r.marked.count, (r.marked.marked k (omega (arith, r.marked.count))).within))
 
   -- the new paths of a granted resampling are old ones
-  pub all_resampled : (P : PathOf S → Type 0) → Resamples → All P f.paths → All P (map (path f) (parents_now f))
+  pub all_resampled : (P : PathOf S → Type 0) → Resamples → AllByRecursion P f.paths → AllByRecursion P (map (path f) (parents_now f))
   all_resampled P r h =
       All-map P (path f) (parents_now f)
       (All-weaker (λ i. i < length f.paths) (λ i. P (path f i)) (λ i l. All-get_or P f.paths i [] l h) (parents_now f) (parents_within r))

@@ -1,6 +1,6 @@
 -- A hold frees nothing, since the place that it takes was closed. Assumes nothing.
 use Rattle.std.proofs.Common.{◌≡◌, ℕ, zero, suc, ◌-◌, ◌≤◌, List, [], ◌∷◌, get_or, set, Some, None, Option, refl, ap, ◌∙◌, arith}
-use Rattle.std.specs.List.{AllByRecursion as All}
+use Rattle.std.specs.List.{AllByRecursion}
 use Rattle.std.proofs.ByRecursion.{All-append}
 use Rattle.refusals.specs.declared.Refusal.{Refusal}
 use Rattle.models.specs.Meanings.{Meaning}
@@ -17,7 +17,7 @@ use Rattle.filter.proofs.Sounds.{sound_granted}
 
 module _ {S : Type 0} (P : PathOf S → Type 0) where
   -- a path that comes into a closed place drives none out
-  all_kept : (ps : List (Option (PathOf S))) (i : ℕ) (p : PathOf S) → get_or ps i None ≡ None → All P (opened (set ps i (Some p))) → All P (opened ps)
+  all_kept : (ps : List (Option (PathOf S))) (i : ℕ) (p : PathOf S) → get_or ps i None ≡ None → AllByRecursion P (opened (set ps i (Some p))) → AllByRecursion P (opened ps)
   all_kept [] i p e h = h
   all_kept (None ∷ ps) zero p e h = h.1
   all_kept (Some r ∷ ps) zero p e h = absurd (let z : ◌≡◌ {A = ℕ} 0 1 = cc in omega arith)

@@ -1,6 +1,6 @@
 -- No path is longer than the nodes in use. Assumes nothing.
 use Rattle.std.proofs.Common.{◌≡◌, ℕ, suc, ◌+◌, ◌<◌, ◌≤◌, Bool, false, cond, List, [], ◌∷◌, length, refl, ap, ◌∙◌, arith}
-use Rattle.std.specs.List.{AllByRecursion as All}
+use Rattle.std.specs.List.{AllByRecursion}
 use Rattle.std.proofs.ByRecursion.{All-weaker}
 use Rattle.std.proofs.lemmas.Bool.{ne_eqb, or_from}
 use Rattle.filter.specs.Filters.{Pair, PathOf}
@@ -11,7 +11,7 @@ use Rattle.filter.proofs.Alls.{all_both}
 use Rattle.filter.proofs.Counts.{count_mono, different_is}
 use Rattle.filter.proofs.Serials.{Low, low_paths, Covered, covered_self}
 
-not_below : (s : ℕ) (xs : List ℕ) → All (λ x. x < s) xs → member s xs ≡ false
+not_below : (s : ℕ) (xs : List ℕ) → AllByRecursion (λ x. x < s) xs → member s xs ≡ false
 not_below s [] h = refl
 not_below s (x ∷ xs) h = let l : x < s = h.0 in or_from _ _ (ne_eqb s x (λ e. omega arith)) (not_below s xs h.1)
 

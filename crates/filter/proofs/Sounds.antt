@@ -1,7 +1,7 @@
 -- Every call leaves a sound filter sound, and the nodes in use balance. Assumes nothing.
 use Rattle.std.proofs.Common.{◌≡◌, ℕ, ◌+◌, ◌-◌, ◌<◌, ◌≤◌, List, [], ◌++◌, map, length, set, Some, None, Option, sym, refl, ap, ◌∙◌, arith, length-set}
 use lib.ListN.{length-map}
-use Rattle.std.specs.List.{range_with_len, AllByRecursion as All}
+use Rattle.std.specs.List.{range_with_len, AllByRecursion}
 use Rattle.std.proofs.lemmas.List.FromFn.{length-map-range_with_len}
 use Rattle.std.proofs.ByRecursion.{All-append, All-get_or, All-map, All-weaker}
 use Rattle.refusals.specs.declared.Refusal.{Refusal}
@@ -25,26 +25,26 @@ module _ {S : Type 0} (m : Meaning S) (f : Filter S) (s : Sound f) where
   abbrev holds : List (PathOf S)
   holds = opened f.places
 
-  lows : All (Low f.issued) f.paths × All (Low f.issued) holds
+  lows : AllByRecursion (Low f.issued) f.paths × AllByRecursion (Low f.issued) holds
   lows = all_split (Low f.issued) f.paths holds (low_paths f.issued (all_paths f) s.serials_below_issued)
 
-  falls : All Falling f.paths × All Falling holds
+  falls : AllByRecursion Falling f.paths × AllByRecursion Falling holds
   falls = all_split Falling f.paths holds s.serials_fall
 
-  begun : All Begun f.paths × All Begun holds
+  begun : AllByRecursion Begun f.paths × AllByRecursion Begun holds
   begun = all_split Begun f.paths holds s.paths_begun
 
   -- particles' paths and held ones agree, each with both
-  agreements : (AllAgree f.paths × All (λ p. All (Agree p) holds) f.paths) × (All (λ p. All (Agree p) f.paths) holds × AllAgree holds)
+  agreements : (AllAgree f.paths × AllByRecursion (λ p. AllByRecursion (Agree p) holds) f.paths) × (AllByRecursion (λ p. AllByRecursion (Agree p) f.paths) holds × AllAgree holds)
   agreements =
-      let r = all_split (λ p. All (Agree p) (all_paths f)) f.paths holds s.one_serial_one_node in
+      let r = all_split (λ p. AllByRecursion (Agree p) (all_paths f)) f.paths holds s.one_serial_one_node in
       ((left f.paths r.0, right f.paths r.0), (left holds r.1, right holds r.1))
     where
-      left : (ps : List (PathOf S)) → All (λ p. All (Agree p) (all_paths f)) ps → All (λ p. All (Agree p) f.paths) ps
-      left ps h = All-weaker (λ p. All (Agree p) (all_paths f)) (λ p. All (Agree p) f.paths) (λ p k. (all_split (Agree p) f.paths holds k).0) ps h
+      left : (ps : List (PathOf S)) → AllByRecursion (λ p. AllByRecursion (Agree p) (all_paths f)) ps → AllByRecursion (λ p. AllByRecursion (Agree p) f.paths) ps
+      left ps h = All-weaker (λ p. AllByRecursion (Agree p) (all_paths f)) (λ p. AllByRecursion (Agree p) f.paths) (λ p k. (all_split (Agree p) f.paths holds k).0) ps h
 
-      right : (ps : List (PathOf S)) → All (λ p. All (Agree p) (all_paths f)) ps → All (λ p. All (Agree p) holds) ps
-      right ps h = All-weaker (λ p. All (Agree p) (all_paths f)) (λ p. All (Agree p) holds) (λ p k. (all_split (Agree p) f.paths holds k).1) ps h
+      right : (ps : List (PathOf S)) → AllByRecursion (λ p. AllByRecursion (Agree p) (all_paths f)) ps → AllByRecursion (λ p. AllByRecursion (Agree p) holds) ps
+      right ps h = All-weaker (λ p. AllByRecursion (Agree p) (all_paths f)) (λ p. AllByRecursion (Agree p) holds) (λ p k. (all_split (Agree p) f.paths holds k).1) ps h
 
   -- the old paths are among those of the filter that these calls leave
   pub weigh_among : (q place : ℕ) → Among f (granted m f (weigh q) place)
@@ -65,10 +65,10 @@ module _ {S : Type 0} (m : Meaning S) (f : Filter S) (s : Sound f) where
   finish_among place P a b = b
 
   -- the serials after a start and after an advance
-  start_low : (n place : ℕ) → All (Low (f.issued + n)) (all_paths (granted m f (start n) place))
+  start_low : (n place : ℕ) → AllByRecursion (Low (f.issued + n)) (all_paths (granted m f (start n) place))
   start_low n place = All-append (Low (f.issued + n)) (births m f n) holds (born_low m f n) (low_more f.issued (f.issued + n) (omega arith) holds lows.1)
 
-  advance_low : (c place : ℕ) → All (Low (f.issued + length f.paths)) (all_paths (granted m f (advance c) place))
+  advance_low : (c place : ℕ) → AllByRecursion (Low (f.issued + length f.paths)) (all_paths (granted m f (advance c) place))
   advance_low c place =
       let b : ℕ = f.issued + (0 + length f.paths) in
       All-append (Low (f.issued + length f.paths)) (all_longer m f c 0 f.paths) holds
@@ -101,16 +101,16 @@ module _ {S : Type 0} (m : Meaning S) (f : Filter S) (s : Sound f) where
 
   -- what the filters share that have no new path
   module _ (f' : Filter S) (a : Among f f') where
-    fall_among : All Falling (all_paths f')
+    fall_among : AllByRecursion Falling (all_paths f')
     fall_among = among Falling f f' a s.serials_fall
 
-    below_among : All (λ x. x < f.issued) (serials (all_paths f'))
+    below_among : AllByRecursion (λ x. x < f.issued) (serials (all_paths f'))
     below_among = low_serials f.issued (all_paths f') (among (Low f.issued) f f' a (low_paths f.issued (all_paths f) s.serials_below_issued))
 
     agreeing_among : AllAgree (all_paths f')
     agreeing_among = agree_among f f' a s.one_serial_one_node
 
-    begun_among : All Begun (all_paths f')
+    begun_among : AllByRecursion Begun (all_paths f')
     begun_among = among Begun f f' a s.paths_begun
 
     within_among : in_use f' ≤ f.room

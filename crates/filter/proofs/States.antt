@@ -1,6 +1,6 @@
 -- Under a lawful model only states come onto paths. Assumes nothing.
 use Rattle.std.proofs.Common.{◌≡◌, ℕ, ◌+◌, true, List, [], ◌∷◌, Some, None, Option, refl}
-use Rattle.std.specs.List.{range_with_len, AllByRecursion as All}
+use Rattle.std.specs.List.{range_with_len, AllByRecursion}
 use Rattle.std.proofs.ByRecursion.{All-append, All-map}
 use Rattle.refusals.specs.declared.Refusal.{Refusal}
 use Rattle.models.specs.Kinds.{Kind}
@@ -19,12 +19,12 @@ use Rattle.filter.proofs.Sounds.{weigh_among, resample_among, hold_among, give_b
 
 module _ {S : Type 0} (k : Kind S) (m : Meaning S) (l : Lawful k m) (f : Filter S) (s : Sound f) where
   abbrev States : PathOf S → Type 0
-  States p = All (λ x. k.is x.state ≡ true) p
+  States p = AllByRecursion (λ x. k.is x.state ≡ true) p
 
-  born_states : (n : ℕ) → All States (births m f n)
+  born_states : (n : ℕ) → AllByRecursion States (births m f n)
   born_states n = All-map States (born m f) (range_with_len 0 n) (all_counting (λ i. States (born m f i)) 0 n (λ i a b. (l.births (f.source.to_come i) (s.supply_lawful.below i), tt)))
 
-  longer_states : (c : ℕ) → m.commands c ≡ true → (i : ℕ) (ps : List (PathOf S)) → All States ps → All States (all_longer m f c i ps)
+  longer_states : (c : ℕ) → m.commands c ≡ true → (i : ℕ) (ps : List (PathOf S)) → AllByRecursion States ps → AllByRecursion States (all_longer m f c i ps)
   longer_states c e i [] h = tt
   longer_states c e i ([] ∷ ps) h = (tt, longer_states c e (i + 1) ps h.1)
   longer_states c e i ((x ∷ p) ∷ ps) h =

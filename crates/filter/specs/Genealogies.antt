@@ -1,6 +1,6 @@
 -- What stands of the reference filter after a run. Assumes nothing.
 use Rattle.std.specs.Prelude.{◌≡◌, ◌+◌, Bool, true, false, List, [], ◌∷◌}
-use Rattle.std.specs.List.{AllByRecursion as All}
+use Rattle.std.specs.List.{AllByRecursion}
 use Rattle.resampling.specs.Children.{Fair}
 use Rattle.sources.specs.Supplies.{after}
 use Rattle.models.specs.Meanings.{Meaning}
@@ -29,7 +29,7 @@ AllFair m f₀ (t ∷ ts) = AllFair m f₀ ts × FairTurn (reached m f₀ ts) t
 
 -- the states on paths come from births and moves, each by a draw of its own; nodes and numbers add up; resamplings were fair
 pub record Genealogy {S : Type 0} (m : Meaning S) (f₀ : Filter S) (ts : List Turn) : Type 0 where
-  pub every_state_descends : All (Descends m f₀.source.to_come (makings ts)) (all_paths (reached m f₀ ts))
+  pub every_state_descends : AllByRecursion (Descends m f₀.source.to_come (makings ts)) (all_paths (reached m f₀ ts))
   pub no_draw_serves_two_nodes : AllApart (makings ts)
   pub nodes_in_use_are_issued_less_freed : in_use (reached m f₀ ts) + all_freed ts ≡ all_issued ts
   pub serials_count_nodes_issued : (reached m f₀ ts).issued ≡ all_issued ts

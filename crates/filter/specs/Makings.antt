@@ -1,6 +1,6 @@
 -- The nodes that the turns of a run made, and the numbers drawn for them. Assumes nothing.
 use Rattle.std.specs.Prelude.{◌≡◌, ℕ, ◌+◌, ◌<◌, ◌↔◌, List, [], ◌∷◌}
-use Rattle.std.specs.List.{AllByRecursion as All}
+use Rattle.std.specs.List.{AllByRecursion}
 use Rattle.filter.specs.Calls.{Call}
 use Rattle.filter.specs.Replies.{told_issued}
 use Rattle.filter.specs.Runs.{Turn, all_issued, all_drawn}
@@ -28,4 +28,4 @@ Apart g h = (i j : ℕ) → i < g.count → j < h.count → (g.first_draw + i �
 
 -- no draw serves two nodes, and no node has two draws
 abbrev pub AllApart : List Making → Type 0
-AllApart gs = All (λ g. All (Apart g) gs) gs
+AllApart gs = AllByRecursion (λ g. AllByRecursion (Apart g) gs) gs

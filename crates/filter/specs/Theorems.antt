@@ -1,6 +1,6 @@
 -- What is shown of the reference filter, over a type of states. Assumes nothing.
 use Rattle.std.specs.Prelude.{◌≡◌, ℕ, ◌+◌, ◌≤◌, List, length, Some}
-use Rattle.std.specs.List.{AllByRecursion as All}
+use Rattle.std.specs.List.{AllByRecursion}
 use Rattle.refusals.specs.declared.Refusal.{Refusal}
 use Rattle.sources.specs.Supplies.{Supply, Lawful}
 use Rattle.models.specs.Kinds.{Kind}
@@ -42,7 +42,7 @@ EveryStepKeepsStates S = (k : Kind S) (m : Meaning S) → LawfulModel k m → (f
 
 -- a path is no longer than the nodes in use, so the round stays below the nodes that the maker uses
 abbrev pub NoPathIsLongerThanTheNodesInUse : Type 0 → Type 0
-NoPathIsLongerThanTheNodesInUse S = (f : Filter S) → Sound f → All (λ p. length p ≤ in_use f) (all_paths f)
+NoPathIsLongerThanTheNodesInUse S = (f : Filter S) → Sound f → AllByRecursion (λ p. length p ≤ in_use f) (all_paths f)
 
 -- every run from a fresh filter leaves it sound
 abbrev pub EveryRunIsSound : Type 0 → Type 0

@@ -1,7 +1,7 @@
 -- A line is read exactly when it is written. Assumes nothing.
 use Rattle.std.proofs.Common.{◌≡◌, ℕ, ◌+◌, ◌<◌, ◌≤◌, Bool, true, false, cond, eqb, ltb, List, [], ◌∷◌, length, Some, None, Ok, Err, Option, Result, sym, refl, ap, ◌∙◌, subst, arith, ltb-false, le-ltb, eqb-true}
 use borrow.Author.Tests.{eqb-false}
-use Rattle.std.specs.List.{AllByRecursion as All}
+use Rattle.std.specs.List.{AllByRecursion}
 use Rattle.std.specs.Str.{all_ascii_digits}
 use Rattle.fields.specs.declared.fault.FieldFault.{FieldFault}
 use Rattle.fields.specs.Cuts.{fields}
@@ -175,7 +175,7 @@ form_from_read p bs l h = go (ltb 100 (length bs)) refl h
         record { short = ltb-false 100 (length bs) e; parts = x.0; has = x.2; digits = x.1; numbers = x.3; text = sym (fields_join bs).0 ∙ ap (join_by 44) x.4 }
 
 -- and back
-writes_lack : (ns : List (ℕ × ℕ)) (fs : List (List ℕ)) → Writes ns fs → All (Lacks 44) fs
+writes_lack : (ns : List (ℕ × ℕ)) (fs : List (List ℕ)) → Writes ns fs → AllByRecursion (Lacks 44) fs
 writes_lack [] [] w = tt
 writes_lack [] (f ∷ fs) w = absurd w
 writes_lack (n ∷ ns) [] w = absurd w

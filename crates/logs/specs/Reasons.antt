@@ -1,7 +1,7 @@
 -- Why a line is refused: the first reason that fits, with no word of how the line is read. Assumes nothing.
 use Rattle.std.specs.Prelude.{◌≡◌, ℕ, ◌+◌, ◌<◌, ◌≤◌, true, false, ◌⊎◌, List, [], ◌∷◌, length, Some, Err, ◌≢◌}
 use Rattle.std.specs.Str.Parse.{digits_value}
-use Rattle.std.specs.List.{AllByRecursion as All}
+use Rattle.std.specs.List.{AllByRecursion}
 use Rattle.std.specs.Str.{all_ascii_digits}
 use Rattle.fields.specs.declared.fault.FieldFault.{FieldFault}
 use Rattle.fields.specs.declared.fault.FieldFault.TheVariants.{Empty, NotDigit, AboveLimit}
@@ -48,7 +48,7 @@ OneOf (x ∷ xs) ls = (x ≡ ls) ⊎ OneOf xs ls
 abbrev pub ReasonAfter : List (List ℕ) → List (List ℕ) → LineFault → Type 0
 ReasonAfter forms fs TooLong = ⊥
 ReasonAfter forms fs UnknownLetter = ⊥
-ReasonAfter forms fs FieldCount = All (λ ls. length ls ≢ length fs) forms
+ReasonAfter forms fs FieldCount = AllByRecursion (λ ls. length ls ≢ length fs) forms
 ReasonAfter forms fs (Field f) = (ls : List ℕ) × OneOf forms ls × (length ls ≡ length fs) × Leftmost ls 2 fs f
 
 -- the first field is not one letter of the program

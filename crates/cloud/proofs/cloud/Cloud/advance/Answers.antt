@@ -12,13 +12,13 @@ use Rattle.cloud.proofs.Guarding.{advance_guarded}
 use Rattle.cloud.proofs.Stepping.{some_on}
 use Rattle.cloud.proofs.cloud.Cloud.advance.Goals as goal
 
-pub returns-in-default : goal.returns-in-default
-returns-in-default g c =
-    let p = promised g.S.State.kind (g.M.Model.meaning c.args.model.now) (advance c.args.command) _ (view c.args.self.now) (view c.args.self.now) (g.R.Source.supply c.args.source.now) (g.R.Source.supply c.args.source.now) (advance_wrong_phase (g.M.Model.meaning c.args.model.now) c.args.command (view c.args.self.now) (g.R.Source.supply c.args.source.now) c.in-default.not-Level) in
+pub returns-in_default : goal.returns-in_default
+returns-in_default g c =
+    let p = promised g.S.State.kind (g.M.Model.meaning c.args.model.now) (advance c.args.command) _ (view c.args.self.now) (view c.args.self.now) (g.R.Source.supply c.args.source.now) (g.R.Source.supply c.args.source.now) (advance_wrong_phase (g.M.Model.meaning c.args.model.now) c.args.command (view c.args.self.now) (g.R.Source.supply c.args.source.now) c.in_default.not-Level) in
     record { same = (refl, refl); rest = refl; count = refl; steps = p.0; runs = p.1 }
 
-pub returns-then-not-knows-command : goal.returns-then-not-knows-command
-returns-then-not-knows-command g c =
+pub returns-then-not-knows_command : goal.returns-then-not-knows_command
+returns-then-not-knows_command g c =
     let p = promised g.S.State.kind (g.M.Model.meaning c.args.model.now) (advance c.args.command) _ (view c.args.self.now) (view c.args.self.now) (g.R.Source.supply c.args.source.now) (g.R.Source.supply c.args.source.now) (advance_unknown (g.M.Model.meaning c.args.model.now) c.args.command (view c.args.self.now) (g.R.Source.supply c.args.source.now) c.in-Level.is (search rules)) in
     record { same = (refl, refl); rest = refl; count = refl; steps = p.0; runs = p.1 }
 
@@ -27,39 +27,42 @@ returns-then-self-n g c =
     let p = promised g.S.State.kind (g.M.Model.meaning c.args.model.now) (advance c.args.command) _ (view c.args.self.now) (view c.args.self.now) (g.R.Source.supply c.args.source.now) (g.R.Source.supply c.args.source.now) (advance_no_nodes (g.M.Model.meaning c.args.model.now) c.args.command (view c.args.self.now) (g.R.Source.supply c.args.source.now) c.in-Level.is (search rules) (omega arith)) in
     record { same = (refl, refl); rest = refl; count = refl; steps = p.0; runs = p.1 }
 
-pub returns-then-not-can-draw : goal.returns-then-not-can-draw
-returns-then-not-can-draw g c =
+pub returns-then-not-can_draw : goal.returns-then-not-can_draw
+returns-then-not-can_draw g c =
     let p = promised g.S.State.kind (g.M.Model.meaning c.args.model.now) (advance c.args.command) _ (view c.args.self.now) (view c.args.self.now) (g.R.Source.supply c.args.source.now) (g.R.Source.supply c.args.source.now) (advance_dry (g.M.Model.meaning c.args.model.now) c.args.command (view c.args.self.now) (g.R.Source.supply c.args.source.now) c.in-Level.is (search rules) (omega arith) (search rules)) in
     record { same = (refl, refl); rest = refl; count = refl; steps = p.0; runs = p.1 }
 
-pub issue-moves-requires : goal.issue-moves-requires
-issue-moves-requires g c = record {
+pub issue_moves-requires : goal.issue_moves-requires
+issue_moves-requires g c = record {
   few = c.args.self.now.few;
   room = omega arith;
   map = advance_map (view c.args.self.now) c.args.self.now.represented;
   supplied = search rules;
 }
 
-pub overflow-add-self : goal.overflow-add-self
-overflow-add-self g c = omega (arith, round_small (view c.args.self.now) c.args.self.now.represented (λ e. level_not_empty (sym c.in-Level.is ∙ e)))
+pub overflow_add-self : goal.overflow_add-self
+overflow_add-self g c = omega (arith, round_small (view c.args.self.now) c.args.self.now.represented (λ e. level_not_empty (sym c.in-Level.is ∙ e)))
 
-pub invariant-of-self : goal.invariant-of-self
-invariant-of-self g c =
+pub invariant_of-self : goal.invariant_of-self
+invariant_of-self g c =
     let v = view c.args.self.now in
     let q = g.R.Source.supply c.args.source.now in
-    let q' = g.R.Source.supply c.issue-moves.new.source in
-    let v' : View g.row.S.Denot = advanced_view v c.issue-moves.new.self.nodes.now c.issue-moves.new.self.head c.issue-moves.new.self.free c.issue-moves.new.row in
+    let q' = g.R.Source.supply c.issue_moves.new.source in
+    let v' : View g.row.S.Denot = advanced_view v c.issue_moves.new.self.nodes.now c.issue_moves.new.self.head c.issue_moves.new.self.free c.issue_moves.new.row in
     let go : Follows (guarded g.S.State.kind (g.M.Model.meaning c.args.model.now)) (advance c.args.command) (done c.args.self.now.n 0 nothing) (view c.args.self.now) (g.R.Source.supply c.args.source.now) v' q'
-    = advance_granted (guarded g.S.State.kind (g.M.Model.meaning c.args.model.now)) c.args.command v q c.in-Level.is (search rules) (omega arith) (search rules) v' q' c.issue-moves.array_long c.args.self.now.few refl refl c.in-Level.is refl refl c.issue-moves.ensures.free c.issue-moves.ensures.rest c.issue-moves.ensures.moved in
-    (c.args.self.now.few, (some_on (guarded g.S.State.kind (g.M.Model.meaning c.args.model.now)) (advance c.args.command) (done c.args.self.now.n 0 nothing) v v' q q' (g.met.R.Source.lawful c.args.source.now) go c.args.self.now.represented, tt))
+    = advance_granted (guarded g.S.State.kind (g.M.Model.meaning c.args.model.now)) c.args.command v q c.in-Level.is (search rules) (omega arith) (search rules) v' q' c.issue_moves.array_long c.args.self.now.few refl refl c.in-Level.is refl refl c.issue_moves.ensures.free c.issue_moves.ensures.rest c.issue_moves.ensures.moved in
+    record {
+      few = c.args.self.now.few;
+      represented = some_on (guarded g.S.State.kind (g.M.Model.meaning c.args.model.now)) (advance c.args.command) (done c.args.self.now.n 0 nothing) v v' q q' (g.met.R.Source.lawful c.args.source.now) go c.args.self.now.represented;
+    }
 
 pub returns : goal.returns
 returns g c =
     let v = view c.args.self.now in
     let q = g.R.Source.supply c.args.source.now in
-    let q' = g.R.Source.supply c.issue-moves.new.source in
-    let v' : View g.row.S.Denot = advanced_view v c.issue-moves.new.self.nodes.now c.issue-moves.new.self.head c.issue-moves.new.self.free c.issue-moves.new.row in
+    let q' = g.R.Source.supply c.issue_moves.new.source in
+    let v' : View g.row.S.Denot = advanced_view v c.issue_moves.new.self.nodes.now c.issue_moves.new.self.head c.issue_moves.new.self.free c.issue_moves.new.row in
     let go : Follows (guarded g.S.State.kind (g.M.Model.meaning c.args.model.now)) (advance c.args.command) (done c.args.self.now.n 0 nothing) (view c.args.self.now) (g.R.Source.supply c.args.source.now) v' q'
-    = advance_granted (guarded g.S.State.kind (g.M.Model.meaning c.args.model.now)) c.args.command v q c.in-Level.is (search rules) (omega arith) (search rules) v' q' c.issue-moves.array_long c.args.self.now.few refl refl c.in-Level.is refl refl c.issue-moves.ensures.free c.issue-moves.ensures.rest c.issue-moves.ensures.moved in
+    = advance_granted (guarded g.S.State.kind (g.M.Model.meaning c.args.model.now)) c.args.command v q c.in-Level.is (search rules) (omega arith) (search rules) v' q' c.issue_moves.array_long c.args.self.now.few refl refl c.in-Level.is refl refl c.issue_moves.ensures.free c.issue_moves.ensures.rest c.issue_moves.ensures.moved in
     let s = advance_guarded g.S.State.kind (g.M.Model.meaning c.args.model.now) _ v v' q q' c.args.command (search rules) go in
-    record { same = tt; rest = refl; count = c.issue-moves.ensures.same; steps = s; runs = goes_on g.S.State.kind (g.M.Model.meaning c.args.model.now) (advance c.args.command) _ v v' q q' s }
+    record { same = tt; rest = refl; count = c.issue_moves.ensures.same; steps = s; runs = goes_on g.S.State.kind (g.M.Model.meaning c.args.model.now) (advance c.args.command) _ v v' q q' s }

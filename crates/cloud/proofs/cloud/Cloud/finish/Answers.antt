@@ -19,23 +19,26 @@ returns-in-Empty g c = record {
   runs = λ k m q. (promised k m _ _ _ _ _ _ (finish_wrong_phase m q (view c.args.self.now) c.in-Empty.is)).1;
 }
 
-pub release-all-freed-requires : goal.release-all-freed-requires
-release-all-freed-requires g c = finish_named (view c.args.self.now) c.args.self.now.represented (c.args.self.now.n - 0) (omega arith)
+pub release_all-freed-requires : goal.release_all-freed-requires
+release_all-freed-requires g c = finish_named (view c.args.self.now) c.args.self.now.represented (c.args.self.now.n - 0) (omega arith)
 
-pub invariant-of-self : goal.invariant-of-self
-invariant-of-self g c =
+pub invariant_of-self : goal.invariant_of-self
+invariant_of-self g c =
     let v = view c.args.self.now in
-    let v' : View g.row.S.Denot = finished_view v c.release-all-freed.new.self.nodes.now c.release-all-freed.new.self.head c.release-all-freed.new.self.free in
+    let v' : View g.row.S.Denot = finished_view v c.release_all-freed.new.self.nodes.now c.release_all-freed.new.self.head c.release_all-freed.new.self.free in
     let e : c.args.self.now.n - 0 ≡ c.args.self.now.n = omega arith in
-    let go : (m : Meaning g.row.S.Denot) (q : Supply) → Follows m finish (done 0 c.release-all-freed.result nothing) (view c.args.self.now) q v' q
-    = λ m q. finish_granted m q v v' c.release-all-freed.result (c.args.self.now.n - 0) e refl refl refl refl refl c.release-all-freed.ensures.freed c.release-all-freed.ensures.kept c.release-all-freed.ensures.frame c.release-all-freed.ensures.tree c.in-default.not-Empty in
-    (omega arith, (some_free finish (done 0 c.release-all-freed.result nothing) v v' (living_path v c.in-default.not-Empty) go c.args.self.now.represented, tt))
+    let go : (m : Meaning g.row.S.Denot) (q : Supply) → Follows m finish (done 0 c.release_all-freed.result nothing) (view c.args.self.now) q v' q
+    = λ m q. finish_granted m q v v' c.release_all-freed.result (c.args.self.now.n - 0) e refl refl refl refl refl c.release_all-freed.ensures.freed c.release_all-freed.ensures.kept c.release_all-freed.ensures.frame c.release_all-freed.ensures.tree c.in_default.not-Empty in
+    record {
+      few = omega arith;
+      represented = some_free finish (done 0 c.release_all-freed.result nothing) v v' (living_path v c.in_default.not-Empty) go c.args.self.now.represented;
+    }
 
 pub returns : goal.returns
 returns g c =
     let v = view c.args.self.now in
-    let v' : View g.row.S.Denot = finished_view v c.release-all-freed.new.self.nodes.now c.release-all-freed.new.self.head c.release-all-freed.new.self.free in
+    let v' : View g.row.S.Denot = finished_view v c.release_all-freed.new.self.nodes.now c.release_all-freed.new.self.head c.release_all-freed.new.self.free in
     let e : c.args.self.now.n - 0 ≡ c.args.self.now.n = omega arith in
-    let go : (m : Meaning g.row.S.Denot) (q : Supply) → Follows m finish (done 0 c.release-all-freed.result nothing) (view c.args.self.now) q v' q
-    = λ m q. finish_granted m q v v' c.release-all-freed.result (c.args.self.now.n - 0) e refl refl refl refl refl c.release-all-freed.ensures.freed c.release-all-freed.ensures.kept c.release-all-freed.ensures.frame c.release-all-freed.ensures.tree c.in-default.not-Empty in
+    let go : (m : Meaning g.row.S.Denot) (q : Supply) → Follows m finish (done 0 c.release_all-freed.result nothing) (view c.args.self.now) q v' q
+    = λ m q. finish_granted m q v v' c.release_all-freed.result (c.args.self.now.n - 0) e refl refl refl refl refl c.release_all-freed.ensures.freed c.release_all-freed.ensures.kept c.release_all-freed.ensures.frame c.release_all-freed.ensures.tree c.in_default.not-Empty in
     record { same = tt; rest = refl; steps = λ k m q. (promised k m _ _ _ _ _ _ (go m q)).0; runs = λ k m q. (promised k m _ _ _ _ _ _ (go m q)).1 }

@@ -23,22 +23,25 @@ returns-then-place-ge16 g c =
     = λ m q. return_no_place m q (view c.args.self.now) c.args.hold.stamp c.args.hold.place (omega arith) in
     record { same = (refl, refl); rest = refl; steps = λ k m q. (promised k m _ _ _ _ _ _ (go m q)).0; runs = λ k m q. (promised k m _ _ _ _ _ _ (go m q)).1 }
 
-pub returns-in-default : goal.returns-in-default
-returns-in-default g c =
+pub returns-in_default : goal.returns-in_default
+returns-in_default g c =
     let go : (m : Meaning g.row.S.Denot) (q : Supply) → Follows m (give_back c.args.hold.stamp c.args.hold.place) _ (view c.args.self.now) q (view c.args.self.now) q
-    = λ m q. return_closed m q (view c.args.self.now) c.args.hold.stamp c.args.hold.place (omega arith) c.in-default.is in
+    = λ m q. return_closed m q (view c.args.self.now) c.args.hold.stamp c.args.hold.place (omega arith) c.in_default.is in
     record { same = (refl, refl); rest = refl; steps = λ k m q. (promised k m _ _ _ _ _ _ (go m q)).0; runs = λ k m q. (promised k m _ _ _ _ _ _ (go m q)).1 }
 
 pub release-freed-requires : goal.release-freed-requires
 release-freed-requires g c = return_named (view c.args.self.now) c.args.hold.place (omega arith) c.in-Some.node c.in-Some.is c.args.self.now.represented
 
-pub invariant-of-self : goal.invariant-of-self
-invariant-of-self g c =
+pub invariant_of-self : goal.invariant_of-self
+invariant_of-self g c =
     let v = view c.args.self.now in
     let v' : View g.row.S.Denot = returned_view v c.args.hold.place c.release-freed.new.self.nodes.now c.release-freed.new.self.head c.release-freed.new.self.free in
     let go : (m : Meaning g.row.S.Denot) (q : Supply) → Follows m (give_back c.args.hold.stamp c.args.hold.place) (done 0 c.release-freed.result nothing) (view c.args.self.now) q v' q
     = λ m q. return_granted v c.args.hold.place (omega arith) c.in-Some.node c.in-Some.is v' c.release-freed.result refl refl refl refl refl refl refl c.release-freed.ensures.freed c.release-freed.ensures.kept c.release-freed.ensures.frame c.release-freed.ensures.tree m q c.args.hold.stamp c.if-hold-self.false in
-    (c.args.self.now.few, (some_free (give_back c.args.hold.stamp c.args.hold.place) (done 0 c.release-freed.result nothing) v v' (returned_path v c.args.hold.place c.in-Some.node (omega arith) c.in-Some.is) go c.args.self.now.represented, tt))
+    record {
+      few = c.args.self.now.few;
+      represented = some_free (give_back c.args.hold.stamp c.args.hold.place) (done 0 c.release-freed.result nothing) v v' (returned_path v c.args.hold.place c.in-Some.node (omega arith) c.in-Some.is) go c.args.self.now.represented;
+    }
 
 pub returns : goal.returns
 returns g c =

@@ -20,13 +20,13 @@ returns-in-Empty g c =
 pub returns-then-i-self : goal.returns-then-i-self
 returns-then-i-self g c =
     let go : (m : Meaning g.row.S.Denot) (q : Supply) → Follows m (hold c.args.particle) _ (view c.args.self.now) q (view c.args.self.now) q
-    = λ m q. hold_out_of_range m q (view c.args.self.now) c.args.particle c.in-default.not-Empty (omega arith) in
+    = λ m q. hold_out_of_range m q (view c.args.self.now) c.args.particle c.in_default.not-Empty (omega arith) in
     record { same = refl; rest = refl; steps = λ k m q. (promised k m _ _ _ _ _ _ (go m q)).0; runs = λ k m q. (promised k m _ _ _ _ _ _ (go m q)).1 }
 
-pub returns-in-default-first-closed : goal.returns-in-default-first-closed
-returns-in-default-first-closed g c =
+pub returns-in_default-first_closed : goal.returns-in_default-first_closed
+returns-in_default-first_closed g c =
     let go : (m : Meaning g.row.S.Denot) (q : Supply) → Follows m (hold c.args.particle) _ (view c.args.self.now) q (view c.args.self.now) q
-    = λ m q. hold_no_place m q (view c.args.self.now) c.args.particle c.in-default.not-Empty (omega arith) c.in-default-first-closed.ensures in
+    = λ m q. hold_no_place m q (view c.args.self.now) c.args.particle c.in_default.not-Empty (omega arith) c.in_default-first_closed.ensures in
     record { same = refl; rest = refl; steps = λ k m q. (promised k m _ _ _ _ _ _ (go m q)).0; runs = λ k m q. (promised k m _ _ _ _ _ _ (go m q)).1 }
 
 pub retain-requires : goal.retain-requires
@@ -38,15 +38,18 @@ retain-requires g c =
       room = hold_room v c.args.self.now.represented c.args.particle (omega arith) c.args.self.now.few;
     }
 
-pub invariant-of-self : goal.invariant-of-self
-invariant-of-self g c =
+pub invariant_of-self : goal.invariant_of-self
+invariant_of-self g c =
     let v = view c.args.self.now in
     let i = c.args.particle in
     let p = c.in-Some.place in
     let v' : View g.row.S.Denot = held_view v c.args.particle c.in-Some.place c.retain.new.self.nodes.now c.retain.new.self.head c.retain.new.self.free in
     let go : (m : Meaning g.row.S.Denot) (q : Supply) → Follows m (hold c.args.particle) (done 0 0 (held c.args.self.now.stamp c.in-Some.place)) (view c.args.self.now) q v' q
-    = λ m q. hold_granted m q v i c.in-default.not-Empty (omega arith) v' p c.in-Some.ensures.0 c.in-Some.ensures.1 refl refl refl refl refl refl refl c.retain.ensures.free c.retain.ensures.kept c.retain.ensures.frame c.retain.ensures.tree c.args.self.now.stamp refl in
-    (c.args.self.now.few, (some_free (hold c.args.particle) (done 0 0 (held c.args.self.now.stamp c.in-Some.place)) v v' (living_path v c.in-default.not-Empty) go c.args.self.now.represented, tt))
+    = λ m q. hold_granted m q v i c.in_default.not-Empty (omega arith) v' p c.in-Some.ensures.0 c.in-Some.ensures.1 refl refl refl refl refl refl refl c.retain.ensures.free c.retain.ensures.kept c.retain.ensures.frame c.retain.ensures.tree c.args.self.now.stamp refl in
+    record {
+      few = c.args.self.now.few;
+      represented = some_free (hold c.args.particle) (done 0 0 (held c.args.self.now.stamp c.in-Some.place)) v v' (living_path v c.in_default.not-Empty) go c.args.self.now.represented;
+    }
 
 pub returns : goal.returns
 returns g c =
@@ -55,5 +58,5 @@ returns g c =
     let p = c.in-Some.place in
     let v' : View g.row.S.Denot = held_view v c.args.particle c.in-Some.place c.retain.new.self.nodes.now c.retain.new.self.head c.retain.new.self.free in
     let go : (m : Meaning g.row.S.Denot) (q : Supply) → Follows m (hold c.args.particle) (done 0 0 (held c.args.self.now.stamp c.in-Some.place)) (view c.args.self.now) q v' q
-    = λ m q. hold_granted m q v i c.in-default.not-Empty (omega arith) v' p c.in-Some.ensures.0 c.in-Some.ensures.1 refl refl refl refl refl refl refl c.retain.ensures.free c.retain.ensures.kept c.retain.ensures.frame c.retain.ensures.tree c.args.self.now.stamp refl in
+    = λ m q. hold_granted m q v i c.in_default.not-Empty (omega arith) v' p c.in-Some.ensures.0 c.in-Some.ensures.1 refl refl refl refl refl refl refl c.retain.ensures.free c.retain.ensures.kept c.retain.ensures.frame c.retain.ensures.tree c.args.self.now.stamp refl in
     record { same = refl; rest = refl; steps = λ k m q. (promised k m _ _ _ _ _ _ (go m q)).0; runs = λ k m q. (promised k m _ _ _ _ _ _ (go m q)).1 }

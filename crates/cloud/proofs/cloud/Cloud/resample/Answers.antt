@@ -11,17 +11,17 @@ use Rattle.cloud.proofs.Resettling.{resampled_view, Written, written, resample_f
 use Rattle.cloud.proofs.Stepping.{some_living}
 use Rattle.cloud.proofs.cloud.Cloud.resample.Goals as goal
 
-pub returns-in-default : goal.returns-in-default
-returns-in-default g c = record {
+pub returns-in_default : goal.returns-in_default
+returns-in_default g c = record {
   same = (refl, refl);
   rest = refl;
   count = refl;
-  steps = λ k m. (promised k m resample _ (view c.args.self.now) (view c.args.self.now) (g.R.Source.supply c.args.source.now) (g.R.Source.supply c.args.source.now) (resample_wrong_phase m (view c.args.self.now) (g.R.Source.supply c.args.source.now) c.in-default.not-Weighed)).0;
-  runs = λ k m. (promised k m resample _ (view c.args.self.now) (view c.args.self.now) (g.R.Source.supply c.args.source.now) (g.R.Source.supply c.args.source.now) (resample_wrong_phase m (view c.args.self.now) (g.R.Source.supply c.args.source.now) c.in-default.not-Weighed)).1;
+  steps = λ k m. (promised k m resample _ (view c.args.self.now) (view c.args.self.now) (g.R.Source.supply c.args.source.now) (g.R.Source.supply c.args.source.now) (resample_wrong_phase m (view c.args.self.now) (g.R.Source.supply c.args.source.now) c.in_default.not-Weighed)).0;
+  runs = λ k m. (promised k m resample _ (view c.args.self.now) (view c.args.self.now) (g.R.Source.supply c.args.source.now) (g.R.Source.supply c.args.source.now) (resample_wrong_phase m (view c.args.self.now) (g.R.Source.supply c.args.source.now) c.in_default.not-Weighed)).1;
 }
 
-pub returns-then-not-can-draw : goal.returns-then-not-can-draw
-returns-then-not-can-draw g c = record {
+pub returns-then-not-can_draw : goal.returns-then-not-can_draw
+returns-then-not-can_draw g c = record {
   same = (refl, refl);
   rest = refl;
   count = refl;
@@ -33,19 +33,19 @@ refused_same : {X Y : Type 0} (r : Result X Y) (P : Type 0) → P → elim r as 
 refused_same (Ok x) P p = tt
 refused_same (Err e) P p = p
 
-pub returns-in-err-total-weight : goal.returns-in-err-total-weight
-returns-in-err-total-weight g c =
+pub returns-in_err-total_weight : goal.returns-in_err-total_weight
+returns-in_err-total_weight g c =
     let v = view c.args.self.now in
     let q = g.R.Source.supply c.args.source.now in
-    let is_err : c.from-residual.result ≡ Err c.in-err-total-weight.field-0.0 = search rules in
+    let is_err : c.from_residual.result ≡ Err c.in_err-total_weight.field-0.0 = search rules in
     let can : (g.R.Source.supply c.args.source.now).can 1 ≡ true = search rules in
     let lw : length c.args.self.now.weights ≡ 256 = search rules in
     let lw2 : c.args.self.now.n ≤ length c.args.self.now.weights = omega (arith, c.args.self.now.few) in
     let e : c.args.self.now.n - 0 ≡ c.args.self.now.n = omega arith in
-    let go : (m : Meaning g.row.S.Denot) → Follows m resample (refused c.in-err-total-weight.field-0.0) (view c.args.self.now) q (view c.args.self.now) q
-    = λ m. resample_no_total m v q c.in-Weighed.is can c.in-err-total-weight.field-0.0 _ (ap (λ j. take j c.args.self.now.weights) e) lw2 (sym c.total-weight.ensures.value ∙ c.in-err-total-weight.was) in
+    let go : (m : Meaning g.row.S.Denot) → Follows m resample (refused c.in_err-total_weight.field-0.0) (view c.args.self.now) q (view c.args.self.now) q
+    = λ m. resample_no_total m v q c.in-Weighed.is can c.in_err-total_weight.field-0.0 _ (ap (λ j. take j c.args.self.now.weights) e) lw2 (sym c.total_weight.ensures.value ∙ c.in_err-total_weight.was) in
     record {
-      same = refused_same c.from-residual.result _ (refl, refl);
+      same = refused_same c.from_residual.result _ (refl, refl);
       rest = refl;
       count = refl;
       steps = λ k m. subst (λ r. Steps k m resample (told r) v q v q) (sym is_err) (promised k m resample _ v v q q (go m)).0;
@@ -56,40 +56,43 @@ pub resettle-freed-requires : goal.resettle-freed-requires
 resettle-freed-requires g c =
     let lw : length c.args.self.now.weights ≡ 256 = search rules in
     let lw2 : c.args.self.now.n ≤ length c.args.self.now.weights = omega (arith, c.args.self.now.few) in
-    let w : Written c.args.self.now.n c.args.self.now.weights ((g.R.Source.supply c.args.source.now).to_come 0) c.write-parents.new.row
-    = written c.args.self.now.n (c.args.self.now.n - 0) c.args.self.now.weights _ c.write-parents.new.row c.next-number-number.result ((g.R.Source.supply c.args.source.now).to_come 0) c.in-ok-total-weight.field-0 c.in-Ok.field-0 256 c.total-weight.result c.write-parents.result (omega arith) lw2 c.next-number-number.type-inv c.next-number-number.ensures.value c.total-weight.ensures.value c.in-ok-total-weight.was c.write-parents.ensures.reply c.in-Ok.is c.write-parents.ensures.row in
+    let w : Written c.args.self.now.n c.args.self.now.weights ((g.R.Source.supply c.args.source.now).to_come 0) c.write_parents.new.row
+    = written c.args.self.now.n (c.args.self.now.n - 0) c.args.self.now.weights _ c.write_parents.new.row c.next_number-number.result ((g.R.Source.supply c.args.source.now).to_come 0) c.in_ok-total_weight.field-0 c.in-Ok.field-0 256 c.total_weight.result c.write_parents.result (omega arith) lw2 c.next_number-number.type_inv c.next_number-number.ensures.value c.total_weight.ensures.value c.in_ok-total_weight.was c.write_parents.ensures.reply c.in-Ok.is c.write_parents.ensures.row in
     record {
       few = c.args.self.now.few;
       below = w.below;
       tree = resample_few (view c.args.self.now) c.args.self.now.represented;
     }
 
-pub invariant-of-self : goal.invariant-of-self
-invariant-of-self g c =
+pub invariant_of-self : goal.invariant_of-self
+invariant_of-self g c =
     let lw : length c.args.self.now.weights ≡ 256 = search rules in
     let lw2 : c.args.self.now.n ≤ length c.args.self.now.weights = omega (arith, c.args.self.now.few) in
-    let w : Written c.args.self.now.n c.args.self.now.weights ((g.R.Source.supply c.args.source.now).to_come 0) c.write-parents.new.row
-    = written c.args.self.now.n (c.args.self.now.n - 0) c.args.self.now.weights _ c.write-parents.new.row c.next-number-number.result ((g.R.Source.supply c.args.source.now).to_come 0) c.in-ok-total-weight.field-0 c.in-Ok.field-0 256 c.total-weight.result c.write-parents.result (omega arith) lw2 c.next-number-number.type-inv c.next-number-number.ensures.value c.total-weight.ensures.value c.in-ok-total-weight.was c.write-parents.ensures.reply c.in-Ok.is c.write-parents.ensures.row in
+    let w : Written c.args.self.now.n c.args.self.now.weights ((g.R.Source.supply c.args.source.now).to_come 0) c.write_parents.new.row
+    = written c.args.self.now.n (c.args.self.now.n - 0) c.args.self.now.weights _ c.write_parents.new.row c.next_number-number.result ((g.R.Source.supply c.args.source.now).to_come 0) c.in_ok-total_weight.field-0 c.in-Ok.field-0 256 c.total_weight.result c.write_parents.result (omega arith) lw2 c.next_number-number.type_inv c.next_number-number.ensures.value c.total_weight.ensures.value c.in_ok-total_weight.was c.write_parents.ensures.reply c.in-Ok.is c.write_parents.ensures.row in
     let v = view c.args.self.now in
     let q = g.R.Source.supply c.args.source.now in
-    let q' = g.R.Source.supply c.next-number-number.new.source in
+    let q' = g.R.Source.supply c.next_number-number.new.source in
     let v' : View g.row.S.Denot = resampled_view v c.resettle-freed.new.self.nodes.now c.resettle-freed.new.self.head c.resettle-freed.new.self.free c.resettle-freed.new.row in
     let can : (g.R.Source.supply c.args.source.now).can 1 ≡ true = search rules in
     let go : (m : Meaning g.row.S.Denot) → Follows m resample (done 0 c.resettle-freed.result nothing) (view c.args.self.now) q v' q'
-    = λ m. resample_granted m v q c.in-Weighed.is can w.positive lw2 v' q' c.write-parents.new.row c.resettle-freed.result c.resettle-freed.array_long c.args.self.now.few refl refl refl refl refl c.resettle-freed.ensures.freed c.next-number-number.ensures.rest w.below w.parent-is c.resettle-freed.ensures.kept c.resettle-freed.ensures.frame c.resettle-freed.ensures.row c.resettle-freed.ensures.tree in
-    (c.args.self.now.few, (some_living resample (done 0 c.resettle-freed.result nothing) v v' q q' (g.met.R.Source.lawful c.args.source.now) (λ x. weighed_not_empty (sym c.in-Weighed.is ∙ x)) go c.args.self.now.represented, tt))
+    = λ m. resample_granted m v q c.in-Weighed.is can w.positive lw2 v' q' c.write_parents.new.row c.resettle-freed.result c.resettle-freed.array_long c.args.self.now.few refl refl refl refl refl c.resettle-freed.ensures.freed c.next_number-number.ensures.rest w.below w.parent_is c.resettle-freed.ensures.kept c.resettle-freed.ensures.frame c.resettle-freed.ensures.row c.resettle-freed.ensures.tree in
+    record {
+      few = c.args.self.now.few;
+      represented = some_living resample (done 0 c.resettle-freed.result nothing) v v' q q' (g.met.R.Source.lawful c.args.source.now) (λ x. weighed_not_empty (sym c.in-Weighed.is ∙ x)) go c.args.self.now.represented;
+    }
 
 pub returns : goal.returns
 returns g c =
     let lw : length c.args.self.now.weights ≡ 256 = search rules in
     let lw2 : c.args.self.now.n ≤ length c.args.self.now.weights = omega (arith, c.args.self.now.few) in
-    let w : Written c.args.self.now.n c.args.self.now.weights ((g.R.Source.supply c.args.source.now).to_come 0) c.write-parents.new.row
-    = written c.args.self.now.n (c.args.self.now.n - 0) c.args.self.now.weights _ c.write-parents.new.row c.next-number-number.result ((g.R.Source.supply c.args.source.now).to_come 0) c.in-ok-total-weight.field-0 c.in-Ok.field-0 256 c.total-weight.result c.write-parents.result (omega arith) lw2 c.next-number-number.type-inv c.next-number-number.ensures.value c.total-weight.ensures.value c.in-ok-total-weight.was c.write-parents.ensures.reply c.in-Ok.is c.write-parents.ensures.row in
+    let w : Written c.args.self.now.n c.args.self.now.weights ((g.R.Source.supply c.args.source.now).to_come 0) c.write_parents.new.row
+    = written c.args.self.now.n (c.args.self.now.n - 0) c.args.self.now.weights _ c.write_parents.new.row c.next_number-number.result ((g.R.Source.supply c.args.source.now).to_come 0) c.in_ok-total_weight.field-0 c.in-Ok.field-0 256 c.total_weight.result c.write_parents.result (omega arith) lw2 c.next_number-number.type_inv c.next_number-number.ensures.value c.total_weight.ensures.value c.in_ok-total_weight.was c.write_parents.ensures.reply c.in-Ok.is c.write_parents.ensures.row in
     let v = view c.args.self.now in
     let q = g.R.Source.supply c.args.source.now in
-    let q' = g.R.Source.supply c.next-number-number.new.source in
+    let q' = g.R.Source.supply c.next_number-number.new.source in
     let v' : View g.row.S.Denot = resampled_view v c.resettle-freed.new.self.nodes.now c.resettle-freed.new.self.head c.resettle-freed.new.self.free c.resettle-freed.new.row in
     let can : (g.R.Source.supply c.args.source.now).can 1 ≡ true = search rules in
     let go : (m : Meaning g.row.S.Denot) → Follows m resample (done 0 c.resettle-freed.result nothing) (view c.args.self.now) q v' q'
-    = λ m. resample_granted m v q c.in-Weighed.is can w.positive lw2 v' q' c.write-parents.new.row c.resettle-freed.result c.resettle-freed.array_long c.args.self.now.few refl refl refl refl refl c.resettle-freed.ensures.freed c.next-number-number.ensures.rest w.below w.parent-is c.resettle-freed.ensures.kept c.resettle-freed.ensures.frame c.resettle-freed.ensures.row c.resettle-freed.ensures.tree in
-    record { same = tt; rest = refl; count = c.next-number-number.ensures.same; steps = λ k m. (promised k m resample _ v v' q q' (go m)).0; runs = λ k m. (promised k m resample _ v v' q q' (go m)).1 }
+    = λ m. resample_granted m v q c.in-Weighed.is can w.positive lw2 v' q' c.write_parents.new.row c.resettle-freed.result c.resettle-freed.array_long c.args.self.now.few refl refl refl refl refl c.resettle-freed.ensures.freed c.next_number-number.ensures.rest w.below w.parent_is c.resettle-freed.ensures.kept c.resettle-freed.ensures.frame c.resettle-freed.ensures.row c.resettle-freed.ensures.tree in
+    record { same = tt; rest = refl; count = c.next_number-number.ensures.same; steps = λ k m. (promised k m resample _ v v' q q' (go m)).0; runs = λ k m. (promised k m resample _ v v' q q' (go m)).1 }

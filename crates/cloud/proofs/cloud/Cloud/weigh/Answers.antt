@@ -12,44 +12,47 @@ use Rattle.cloud.proofs.Guarding.{weigh_guarded}
 use Rattle.cloud.proofs.Stepping.{some_same}
 use Rattle.cloud.proofs.cloud.Cloud.weigh.Goals as goal
 
-pub returns-in-default : goal.returns-in-default
-returns-in-default g c = record {
+pub returns-in_default : goal.returns-in_default
+returns-in_default g c = record {
   same = refl;
   rest = refl;
-  steps = λ q. (promised g.S.State.kind (g.M.Model.meaning c.args.model.now) (weigh c.args.reading) _ (view c.args.self.now) (view c.args.self.now) q q (weigh_wrong_phase (g.M.Model.meaning c.args.model.now) c.args.reading q (view c.args.self.now) c.in-default.not-Level)).0;
-  runs = λ q. (promised g.S.State.kind (g.M.Model.meaning c.args.model.now) (weigh c.args.reading) _ (view c.args.self.now) (view c.args.self.now) q q (weigh_wrong_phase (g.M.Model.meaning c.args.model.now) c.args.reading q (view c.args.self.now) c.in-default.not-Level)).1;
+  steps = λ q. (promised g.S.State.kind (g.M.Model.meaning c.args.model.now) (weigh c.args.reading) _ (view c.args.self.now) (view c.args.self.now) q q (weigh_wrong_phase (g.M.Model.meaning c.args.model.now) c.args.reading q (view c.args.self.now) c.in_default.not-Level)).0;
+  runs = λ q. (promised g.S.State.kind (g.M.Model.meaning c.args.model.now) (weigh c.args.reading) _ (view c.args.self.now) (view c.args.self.now) q q (weigh_wrong_phase (g.M.Model.meaning c.args.model.now) c.args.reading q (view c.args.self.now) c.in_default.not-Level)).1;
 }
 
-pub returns-then-not-knows-reading : goal.returns-then-not-knows-reading
-returns-then-not-knows-reading g c = record {
+pub returns-then-not-knows_reading : goal.returns-then-not-knows_reading
+returns-then-not-knows_reading g c = record {
   same = refl;
   rest = refl;
   steps = λ q. (promised g.S.State.kind (g.M.Model.meaning c.args.model.now) (weigh c.args.reading) _ (view c.args.self.now) (view c.args.self.now) q q (weigh_unknown (g.M.Model.meaning c.args.model.now) c.args.reading q (view c.args.self.now) c.in-Level.is (search rules))).0;
   runs = λ q. (promised g.S.State.kind (g.M.Model.meaning c.args.model.now) (weigh c.args.reading) _ (view c.args.self.now) (view c.args.self.now) q q (weigh_unknown (g.M.Model.meaning c.args.model.now) c.args.reading q (view c.args.self.now) c.in-Level.is (search rules))).1;
 }
 
-pub score-tips-total-requires : goal.score-tips-total-requires
-score-tips-total-requires g c = record {
+pub score_tips-total-requires : goal.score_tips-total-requires
+score_tips-total-requires g c = record {
   few = c.args.self.now.few;
   inside = tips_inside (view c.args.self.now) c.args.self.now.represented;
 }
 
-pub invariant-of-self : goal.invariant-of-self
-invariant-of-self g c =
+pub invariant_of-self : goal.invariant_of-self
+invariant_of-self g c =
     let v = view c.args.self.now in
-    let lw : length c.score-tips-total.new.weights ≡ 256 = c.score-tips-total.array_long in
-    let v' : View g.row.S.Denot = weighed_view v c.score-tips-total.new.self.nodes.now c.score-tips-total.new.self.head c.score-tips-total.new.self.free c.score-tips-total.new.weights in
-    let go : (q : Supply) → Follows (guarded g.S.State.kind (g.M.Model.meaning c.args.model.now)) (weigh c.args.reading) (done 0 0 (weighing c.score-tips-total.result)) (view c.args.self.now) q v' q
-    = λ q. weigh_granted (guarded g.S.State.kind (g.M.Model.meaning c.args.model.now)) c.args.reading q v c.in-Level.is (search rules) v' c.score-tips-total.result (ap (λ f. f.nodes.now) c.score-tips-total.ensures.same) (ap (λ f. f.head) c.score-tips-total.ensures.same) (ap (λ f. f.free) c.score-tips-total.ensures.same) refl refl refl refl refl refl (omega (arith, lw, c.args.self.now.few)) c.score-tips-total.ensures.scores c.score-tips-total.ensures.sum in
-    (c.args.self.now.few, (some_same (guarded g.S.State.kind (g.M.Model.meaning c.args.model.now)) (weigh c.args.reading) (done 0 0 (weighing c.score-tips-total.result)) v v' go c.args.self.now.represented, tt))
+    let lw : length c.score_tips-total.new.weights ≡ 256 = c.score_tips-total.array_long in
+    let v' : View g.row.S.Denot = weighed_view v c.score_tips-total.new.self.nodes.now c.score_tips-total.new.self.head c.score_tips-total.new.self.free c.score_tips-total.new.weights in
+    let go : (q : Supply) → Follows (guarded g.S.State.kind (g.M.Model.meaning c.args.model.now)) (weigh c.args.reading) (done 0 0 (weighing c.score_tips-total.result)) (view c.args.self.now) q v' q
+    = λ q. weigh_granted (guarded g.S.State.kind (g.M.Model.meaning c.args.model.now)) c.args.reading q v c.in-Level.is (search rules) v' c.score_tips-total.result (ap (λ f. f.nodes.now) c.score_tips-total.ensures.same) (ap (λ f. f.head) c.score_tips-total.ensures.same) (ap (λ f. f.free) c.score_tips-total.ensures.same) refl refl refl refl refl refl (omega (arith, lw, c.args.self.now.few)) c.score_tips-total.ensures.scores c.score_tips-total.ensures.sum in
+    record {
+      few = c.args.self.now.few;
+      represented = some_same (guarded g.S.State.kind (g.M.Model.meaning c.args.model.now)) (weigh c.args.reading) (done 0 0 (weighing c.score_tips-total.result)) v v' go c.args.self.now.represented;
+    }
 
 pub returns : goal.returns
 returns g c =
     let v = view c.args.self.now in
-    let lw : length c.score-tips-total.new.weights ≡ 256 = c.score-tips-total.array_long in
-    let v' : View g.row.S.Denot = weighed_view v c.score-tips-total.new.self.nodes.now c.score-tips-total.new.self.head c.score-tips-total.new.self.free c.score-tips-total.new.weights in
-    let go : (q : Supply) → Follows (guarded g.S.State.kind (g.M.Model.meaning c.args.model.now)) (weigh c.args.reading) (done 0 0 (weighing c.score-tips-total.result)) (view c.args.self.now) q v' q
-    = λ q. weigh_granted (guarded g.S.State.kind (g.M.Model.meaning c.args.model.now)) c.args.reading q v c.in-Level.is (search rules) v' c.score-tips-total.result (ap (λ f. f.nodes.now) c.score-tips-total.ensures.same) (ap (λ f. f.head) c.score-tips-total.ensures.same) (ap (λ f. f.free) c.score-tips-total.ensures.same) refl refl refl refl refl refl (omega (arith, lw, c.args.self.now.few)) c.score-tips-total.ensures.scores c.score-tips-total.ensures.sum in
+    let lw : length c.score_tips-total.new.weights ≡ 256 = c.score_tips-total.array_long in
+    let v' : View g.row.S.Denot = weighed_view v c.score_tips-total.new.self.nodes.now c.score_tips-total.new.self.head c.score_tips-total.new.self.free c.score_tips-total.new.weights in
+    let go : (q : Supply) → Follows (guarded g.S.State.kind (g.M.Model.meaning c.args.model.now)) (weigh c.args.reading) (done 0 0 (weighing c.score_tips-total.result)) (view c.args.self.now) q v' q
+    = λ q. weigh_granted (guarded g.S.State.kind (g.M.Model.meaning c.args.model.now)) c.args.reading q v c.in-Level.is (search rules) v' c.score_tips-total.result (ap (λ f. f.nodes.now) c.score_tips-total.ensures.same) (ap (λ f. f.head) c.score_tips-total.ensures.same) (ap (λ f. f.free) c.score_tips-total.ensures.same) refl refl refl refl refl refl (omega (arith, lw, c.args.self.now.few)) c.score_tips-total.ensures.scores c.score_tips-total.ensures.sum in
     record {
       same = tt;
       rest = refl;

@@ -6,7 +6,7 @@ use Rattle.cloud.proofs.Links.{length-links}
 use Rattle.cloud.proofs.forest.Forest.issue.Goals as goal
 
 pub unreachable-requires : goal.unreachable-requires
-unreachable-requires g c = some_tree_no_head (links c.args.self.now.nodes.now) c.args.self.now.head c.args.self.now.free c.requires.tree c.in-default.is c.requires.room
+unreachable-requires g c = some_tree_no_head (links c.args.self.now.nodes.now) c.args.self.now.head c.args.self.now.free c.requires.tree c.in_default.is c.requires.room
 
 pub issue-next-requires : goal.issue-next-requires
 issue-next-requires g c = omega (arith, some_tree_head_inside (links c.args.self.now.nodes.now) c.args.self.now.head c.args.self.now.free c.in-Some.node c.requires.tree c.in-Some.is, length-links c.args.self.now.nodes.now)

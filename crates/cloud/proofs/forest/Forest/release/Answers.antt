@@ -7,8 +7,8 @@ use Rattle.cloud.proofs.forest.Forest.release.Goals as goal
 pub release-head-requires : goal.release-head-requires
 release-head-requires g c = ∥∥₁_map c.requires (λ (w, serial, issued, t). (c.args.self.now.free, w, serial, issued, t))
 
-pub overflow-add-self : goal.overflow-add-self
-overflow-add-self g c =
+pub overflow_add-self : goal.overflow_add-self
+overflow_add-self g c =
     let b : c.args.self.now.free + c.release-head.result.1 ≤ 65536
     = ∥∥₁_elim c.requires le_prop (λ (w, serial, issued, t). free_le _ _ _ w serial issued (c.release-head.ensures.tree c.args.self.now.free w serial issued t)) in
     omega arith

@@ -11,8 +11,8 @@ pub release-freed-requires : goal.release-freed-requires
 release-freed-requires g c =
     release_all_next (links c.args.self.now.nodes.now) (links c.loop-i.self.nodes.now) c.args.self.now.head c.loop-i.self.head c.args.self.now.free c.loop-i.self.free c.args.named.now c.loop-i.i c.loop-i.invariant.3 (omega arith) c.requires
 
-pub overflow-add-freed : goal.overflow-add-freed
-overflow-add-freed g c =
+pub overflow_add-freed : goal.overflow_add-freed
+overflow_add-freed g c =
     let l : c.loop-i.i < length c.args.named.now = omega arith in
     let b : c.release-freed.new.self.free ≤ 65536
     = release_all_few (links c.args.self.now.nodes.now) (links c.release-freed.new.self.nodes.now) c.args.self.now.head c.release-freed.new.self.head c.args.self.now.free c.release-freed.new.self.free c.args.named.now (c.loop-i.i + 1)
