@@ -6,7 +6,7 @@ use Rattle.std.proofs.lemmas.List.Sums.{sum_by-set, get_or-le-sum_by}
 use native.Mathlib.Bridge.{le_prop}
 use Rattle.std.proofs.lemmas.List.{length-set}
 use Rattle.std.proofs.lemmas.Bool.{cases_eq, cases_lt}
-use Rattle.cloud.specs.Links.{link, linked, Link, no_link, link_at}
+use Rattle.cloud.specs.Links.{linked, Link, no_link, link_at}
 use Rattle.cloud.specs.Trees.{is_node, is_named, occurrences, is_used, is_child, Chain, Tree, with_serial, SomeTree}
 use Rattle.cloud.proofs.Tallies.{is_node_same, is_node_other, is_used_free, is_used_used, is_child_free, is_child_used, with_serial_same, with_serial_other, free_from_is_used, is_named_other}
 use Rattle.cloud.proofs.Links.{link_at_same, link_at_other, link_at_cases}

@@ -1,12 +1,11 @@
 -- An exercise is read exactly when it is written. Assumes nothing.
-use Rattle.std.proofs.Common.{◌≡◌, ℕ, ◌+◌, ◌<◌, ◌≤◌, Bool, true, false, cond, ltb, ◌⊎◌, List, [], ◌∷◌, ◌++◌, length, IfOk, Some, None, Ok, Err, vec_items, Option, Result, sym, refl, ap, ◌∙◌, subst, inl, inr, append_assoc, arith, ltb-false, le-ltb}
+use Rattle.std.proofs.Common.{◌≡◌, ℕ, ◌<◌, ◌≤◌, Bool, true, false, cond, ltb, ◌⊎◌, List, [], ◌∷◌, ◌++◌, length, IfOk, Some, None, Ok, Err, vec_items, Option, Result, sym, refl, ap, ◌∙◌, inl, inr, append_assoc, arith, ltb-false, le-ltb}
 use Rattle.std.specs.List.{AllByRecursion}
-use Rattle.std.specs.Str.{all_ascii_digits}
 use Rattle.std.proofs.ByRecursion.{All-append}
 use Rattle.std.proofs.lemmas.List.{append-nil, append_cancel_right}
 use Rattle.fields.specs.declared.fault.FieldFault.{FieldFault}
 use Rattle.fields.specs.Cuts.{fields, lines}
-use Rattle.fields.specs.Numbers.{Numeral, read_field}
+use Rattle.fields.specs.Numbers.{read_field}
 use Rattle.fields.specs.Lists.{numbers_of, Numerals}
 use Rattle.fields.specs.Laws.{join_by, end_by, Lacks}
 use Rattle.fields.proofs.Exact.{digits_lack, numeral_from_read, read_from_numeral, numbers_exact}

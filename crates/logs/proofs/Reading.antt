@@ -1,5 +1,5 @@
 -- A line by its letter. Assumes nothing.
-use Rattle.std.proofs.Common.{◌≡◌, ℕ, ◌≤◌, cond, List, [], ◌∷◌, length, Some, Err, sym, refl, ap, ◌∙◌, le-ltb}
+use Rattle.std.proofs.Common.{◌≡◌, ℕ, ◌≤◌, cond, List, length, Some, Err, sym, ap, ◌∙◌, le-ltb}
 use Rattle.logs.specs.declared.fault.LineFault.TheVariants.{TooLong}
 use Rattle.logs.specs.declared.line.Program.{Program}
 use Rattle.logs.specs.declared.line.Letter.{Letter}

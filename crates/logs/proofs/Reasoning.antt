@@ -1,5 +1,5 @@
 -- A line that is refused gets the first number that fits. Assumes nothing.
-use Rattle.std.proofs.Common.{◌≡◌, ℕ, ◌+◌, ◌<◌, ◌≤◌, Bool, true, false, cond, ltb, leb, ◌⊎◌, List, [], ◌∷◌, length, Some, None, Ok, Err, Option, Result, sym, refl, ap, ◌∙◌, subst, inl, inr, arith, ltb-false, ltb-true, leb-false}
+use Rattle.std.proofs.Common.{◌≡◌, ℕ, Bool, true, false, cond, ltb, leb, List, [], ◌∷◌, length, Some, None, Ok, Err, Option, Result, sym, refl, ap, ◌∙◌, subst, inl, inr, arith, ltb-false, ltb-true, leb-false}
 use Rattle.std.specs.Str.Parse.{digits_value}
 use Rattle.std.specs.Str.{all_ascii_digits}
 use Rattle.fields.specs.declared.fault.FieldFault.{FieldFault}
@@ -14,9 +14,9 @@ use Rattle.logs.specs.declared.line.Letter.{Letter}
 use Rattle.logs.specs.declared.line.Letter.TheVariants.{Map, Seed, Record, Start, Advance, Weigh, Resample, Share, Path, Finish}
 use Rattle.logs.specs.declared.line.Line.{Line}
 use Rattle.logs.specs.declared.line.Line.TheVariants as line
-use Rattle.logs.specs.Lines.{letter_of, in_line, both, become, arguments_of, no_number, one_number, two_numbers, share_of, line_by, line_by_known, only_letter, from_fields, line_of}
+use Rattle.logs.specs.Lines.{letter_of, in_line, both, become, arguments_of, no_number, one_number, two_numbers, share_of, line_by, line_by_known, only_letter, from_fields}
 use Rattle.logs.proofs.Forming.{in_line_ok}
-use Rattle.logs.specs.Reasons.{limits_of, FaultHere, Leftmost, ReasonAfter, NoLetter, AfterLetter, ReasonIn, Reason, FirstReason}
+use Rattle.logs.specs.Reasons.{limits_of, FaultHere, Leftmost, ReasonAfter, ReasonIn, Reason, FirstReason}
 
 granted : {X Y F : Type 0} (y : Y) (f : F) → ◌≡◌ {A = Result Y F} (Ok y) (Err f) → X
 granted y f h = let z : ◌≡◌ {A = ℕ} 0 1 = cc in absurd (omega arith)

@@ -1,5 +1,5 @@
 -- One line more of a report. Assumes nothing.
-use Rattle.std.proofs.Common.{◌≡◌, ℕ, ◌+◌, List, [], ◌∷◌, ◌++◌, Result, sym, refl, ap, ◌∙◌, subst, append_assoc}
+use Rattle.std.proofs.Common.{◌≡◌, ℕ, ◌+◌, List, ◌∷◌, ◌++◌, Result, sym, ap, ◌∙◌, append_assoc}
 use Rattle.refusals.specs.declared.Refusal.{Refusal}
 use Rattle.logs.specs.declared.line.Program.{Program}
 use Rattle.logs.specs.declared.line.Line.{Line}

@@ -1,5 +1,5 @@
 -- The lines that a program reads. Assumes nothing.
-use Rattle.std.specs.Prelude.{ℕ, Bool, true, false, cond, List, [], ◌∷◌, length, Some, None, Ok, Err, Option, Result, ◌==◌, nat_lt}
+use Rattle.std.specs.Prelude.{ℕ, cond, List, [], ◌∷◌, length, Some, None, Ok, Err, Option, Result, ◌==◌, nat_lt}
 use Rattle.fields.specs.declared.fault.FieldFault.{FieldFault}
 use Rattle.logs.specs.declared.fault.LineFault.{LineFault}
 use Rattle.logs.specs.declared.fault.LineFault.TheVariants.{TooLong, UnknownLetter, FieldCount, Field}
@@ -7,7 +7,7 @@ use Rattle.logs.specs.declared.line.Arguments.{Arguments}
 use Rattle.logs.specs.declared.line.Arguments.TheVariants.{Zero, One, Two, More}
 use Rattle.logs.specs.declared.line.Line.{Line}
 use Rattle.logs.specs.declared.line.Line.TheVariants as line
-use Rattle.fields.specs.Cuts.{fields, fields_in}
+use Rattle.fields.specs.Cuts.{fields}
 use Rattle.fields.specs.Numbers.{read_field}
 use Rattle.logs.specs.declared.line.Program.{Program}
 use Rattle.logs.specs.declared.line.Program.TheVariants.{Locate, Lift}

@@ -1,5 +1,5 @@
 -- Worked examples of the models. Assumes nothing.
-use Rattle.std.specs.Prelude.{◌≡◌, ℕ, List, replicate, Some, None, Option}
+use Rattle.std.specs.Prelude.{◌≡◌, ℕ, replicate, Some, Option}
 use Rattle.std.specs.Option.{option_map}
 use Rattle.models.specs.Kinds.{Coding}
 use Rattle.models.specs.Meanings.{Meaning}

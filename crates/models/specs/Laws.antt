@@ -1,6 +1,6 @@
 -- The laws of the states and the models. Assumes nothing.
-use Rattle.std.specs.Prelude.{◌≡◌, ℕ, ◌≤◌, List}
-use Rattle.std.proofs.Common.{rules, arith}
+use Rattle.std.specs.Prelude.{ℕ, ◌≤◌, List}
+use Rattle.std.proofs.Common.{rules}
 use Rattle.models.specs.Kinds.{Kind, Exact}
 use Rattle.models.specs.Meanings.{Meaning, Lawful}
 use Rattle.models.specs.Poses.{pose_kind, pose_coding}

@@ -1,5 +1,5 @@
 -- States of the lift: a mode and a counter. Assumes nothing.
-use Rattle.std.specs.Prelude.{ℕ, ◌+◌, ◌*◌, ◌/◌, ◌%◌, Bool, cond, Some, None, Option, ◌==◌, nat_lt}
+use Rattle.std.specs.Prelude.{ℕ, ◌+◌, ◌*◌, ◌/◌, ◌%◌, Bool, cond, Some, None, ◌==◌, nat_lt}
 use Rattle.models.specs.Kinds.{Kind, Coding}
 use Rattle.models.specs.declared.lift_state.Mode.{Mode}
 use Rattle.models.specs.declared.lift_state.Mode.TheVariants.{Down, Rising, Up, Lowering}

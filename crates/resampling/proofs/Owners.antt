@@ -1,10 +1,10 @@
 -- Which particle has a mark, and that no other has it. Assumes nothing.
-use Rattle.std.proofs.Common.{◌≡◌, ℕ, zero, suc, ◌+◌, ◌-◌, ◌*◌, ◌/◌, ◌^◌, ◌<◌, ◌≤◌, Bool, true, false, cond, ltb, leb, ◌⊎◌, List, [], ◌∷◌, length, get_or, take, drop, sum, sym, refl, ap, ◌∙◌, subst, inl, inr, zero-le, le_of_suc-le-suc, not-suc-le-zero, add-zero, mul-le-mul_right, suc-mul, mul_comm, div-lt_iff_lt-mul, mul-le-mul_left, mul-lt-mul_of_pos_right, mul-zero, zero-mul, add-one, arith, lit<, ltb-false, ltb-true, leb-false, leb-true}
+use Rattle.std.proofs.Common.{◌≡◌, ℕ, zero, suc, ◌+◌, ◌*◌, ◌^◌, ◌<◌, ◌≤◌, Bool, true, false, cond, ltb, ◌⊎◌, List, length, get_or, take, sum, refl, ap, ◌∙◌, subst, inl, inr, not-suc-le-zero, add-zero, mul-le-mul_right, suc-mul, mul_comm, div-lt_iff_lt-mul, mul-le-mul_left, mul-lt-mul_of_pos_right, mul-zero, zero-mul, add-one, arith, lit<, ltb-false, ltb-true, leb-false, leb-true}
 use Rattle.std.specs.List.{range_with_len, prefix_len}
 use Rattle.std.proofs.lemmas.List.FromFn.{length-range_with_len}
 use Rattle.std.proofs.lemmas.List.{take_all, take-take}
 use Rattle.std.proofs.lemmas.List.Sums.{prefix_len-le-length, sum_by-take-le, sum_by_more}
-use Rattle.resampling.specs.Marks.{total, before, offset, mark, Has, ends_before, owner, parents}
+use Rattle.resampling.specs.Marks.{total, before, offset, mark, Has, ends_before, owner}
 
 -- one of two orders holds, as a test and as a fact
 abbrev pub Order : ℕ → ℕ → Type 0

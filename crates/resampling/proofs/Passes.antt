@@ -1,9 +1,9 @@
 -- One step of the pass over marks and particles. Assumes nothing.
-use Rattle.std.proofs.Common.{◌≡◌, ℕ, ◌+◌, ◌*◌, ◌<◌, ◌≤◌, List, [], ◌∷◌, ◌++◌, map, length, get_or, drop, set, sym, refl, ap, ◌∙◌, inl, inr, le_trans, mul-le-mul_right, mul-le-mul_left, arith}
+use Rattle.std.proofs.Common.{◌≡◌, ℕ, ◌+◌, ◌*◌, ◌<◌, ◌≤◌, List, [], ◌∷◌, ◌++◌, map, length, get_or, drop, set, sym, ap, ◌∙◌, inl, inr, le_trans, mul-le-mul_right, mul-le-mul_left, arith}
 use Rattle.std.specs.List.{range_with_len}
 use Rattle.std.proofs.lemmas.List.FromFn.{length-map-range_with_len, map-range_with_len_more}
 use Rattle.std.proofs.lemmas.List.{append_assoc, drop_more, set_at}
-use Rattle.resampling.specs.Marks.{total, before, mark, Has, parent}
+use Rattle.resampling.specs.Marks.{total, before, mark, parent}
 use Rattle.resampling.proofs.Owners.{Order, order, before_all, mark_low, owner_has, one_owner}
 
 -- a row whose front is f of 0, 1, .. up to k, and whose rest is the old one's

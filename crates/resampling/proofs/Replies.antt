@@ -1,6 +1,6 @@
 -- What a granted call tells. Assumes nothing.
 use Rattle.std.proofs.Common.{◌≡◌, ℕ, ◌<◌, ◌≤◌, Bool, true, false, cond, ◌&&◌, ltb, leb, List, length, Ok, Err, Result, sym, refl, ap, ◌∙◌, arith}
-use Rattle.std.proofs.lemmas.Bool.{ltb-true, leb-true, and_parts}
+use Rattle.std.proofs.lemmas.Bool.{ltb-true, leb-true}
 use Rattle.refusals.specs.declared.Refusal.{Refusal}
 use Rattle.resampling.specs.Calls.{in_range, all_below, total_of, fitting, and_then, parents_reply, children_reply}
 use Rattle.resampling.specs.Marks.{total}

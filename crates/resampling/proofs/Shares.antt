@@ -1,13 +1,11 @@
 -- Systematic resampling is fair, and what else its parents are. Assumes nothing.
-use Rattle.std.proofs.Common.{◌≡◌, ℕ, zero, suc, ◌+◌, ◌-◌, ◌*◌, ◌/◌, ◌<◌, ◌≤◌, Bool, true, false, cond, ◌&&◌, ltb, leb, ◌⊎◌, List, [], ◌∷◌, map, length, get_or, count_by, sym, refl, ap, ◌∙◌, subst, inl, inr, zero-le, mul-le-mul_right, suc-mul, div-lt_iff_lt-mul, add-mul, mul-le-mul_left, mul-zero, le-div_iff_mul-le, zero-mul, add-one, arith, ltb-false, ltb-true, lt-ltb, le-leb}
+use Rattle.std.proofs.Common.{◌≡◌, ℕ, zero, suc, ◌+◌, ◌-◌, ◌*◌, ◌/◌, ◌<◌, ◌≤◌, Bool, true, cond, ◌&&◌, ltb, leb, ◌⊎◌, List, [], ◌∷◌, map, length, get_or, count_by, sym, refl, ap, ◌∙◌, subst, inl, inr, zero-le, mul-le-mul_right, suc-mul, div-lt_iff_lt-mul, add-mul, mul-le-mul_left, mul-zero, le-div_iff_mul-le, zero-mul, add-one, arith, le-leb}
 use native.Mathlib.Nat.{mul-sub}
 use borrow.Author.Tests.{lt-leb}
 use Rattle.std.specs.List.{range_with_len}
-use Rattle.std.specs.List.Sorted.{IsNonDecreasing}
 use Rattle.std.proofs.lemmas.List.FromFn.{length-map-range_with_len, get_or-map-range_with_len}
-use Rattle.std.proofs.lemmas.List.{get_or_default}
-use Rattle.std.proofs.lemmas.List.Sums.{sum_by-cons, count_by-le-length}
-use Rattle.resampling.specs.Marks.{total, before, mark, Has, owner, parent, parents}
+use Rattle.std.proofs.lemmas.List.Sums.{sum_by-cons}
+use Rattle.resampling.specs.Marks.{total, before, mark, Has, parent, parents}
 use Rattle.resampling.specs.Children.{among, children, Rounded, Fair}
 use Rattle.resampling.specs.Systematic.{Systematic}
 use Rattle.resampling.specs.Calls.{all_below}

@@ -1,5 +1,5 @@
 -- What a list of parents is that systematic resampling gives, with no word of how it is found. Assumes nothing.
-use Rattle.std.specs.Prelude.{◌≡◌, ℕ, ◌+◌, ◌<◌, ◌≤◌, List, length, slice_index}
+use Rattle.std.specs.Prelude.{◌≡◌, ℕ, ◌+◌, ◌<◌, List, length, slice_index}
 use Rattle.std.specs.List.Sorted.{IsNonDecreasing}
 use Rattle.resampling.specs.Marks.{mark, Has}
 use Rattle.resampling.specs.Children.{children, Fair}

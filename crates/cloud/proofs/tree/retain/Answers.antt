@@ -1,5 +1,5 @@
-use Rattle.std.proofs.Common.{◌≡◌, ◌+◌, ◌<◌, length, set, ap, ◌∙◌, arith}
-use Rattle.cloud.specs.Links.{links, link_at, linked}
+use Rattle.std.proofs.Common.{◌+◌, ◌<◌, length, set, ap, ◌∙◌, arith}
+use Rattle.cloud.specs.Links.{links, linked}
 use Rattle.cloud.proofs.Links.{kept_set, length-links, same_link}
 use Rattle.cloud.proofs.Trees.{tree_retained}
 use Rattle.cloud.proofs.tree.retain.Goals as goal

@@ -1,4 +1,4 @@
-use Rattle.std.proofs.Common.{◌≡◌, ℕ, List, [], ◌∷◌, Some, None, ap, ◌∙◌, rules}
+use Rattle.std.proofs.Common.{◌≡◌, ℕ, List, ◌∷◌, Some, None, ap, ◌∙◌, rules}
 use Rattle.fields.specs.Cuts.{front, after, fields, fields_in}
 use Rattle.fields.proofs.Cutting.{fields_cut}
 use Rattle.exercise.specs.Inputs.{only_field}

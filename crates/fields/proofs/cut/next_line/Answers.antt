@@ -1,4 +1,4 @@
-use Rattle.std.proofs.Common.{◌<◌, length, arith, rules, true-eqb, false-eqb}
+use Rattle.std.proofs.Common.{◌<◌, length, rules}
 use Rattle.fields.proofs.Cutting.{lines_none, lines_more, lines_last, after_shorter}
 use Rattle.fields.proofs.cut.next_line.Goals as goal
 

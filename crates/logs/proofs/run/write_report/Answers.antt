@@ -1,4 +1,4 @@
-use Rattle.std.proofs.Common.{◌≡◌, ℕ, ◌+◌, ◌++◌, length, refl, ap, ◌∙◌, subst, arith}
+use Rattle.std.proofs.Common.{◌≡◌, ℕ, ◌+◌, ◌++◌, length, refl, ap, ◌∙◌, arith}
 use Rattle.std.proofs.Output.{has_written_append}
 use Rattle.logs.specs.Reports.{entry_text}
 use Rattle.logs.specs.Runs.{served}

@@ -1,4 +1,4 @@
-use Rattle.std.proofs.Common.{◌≡◌, ℕ, ◌+◌, ◌≤◌, Bool, cond, length, get_or, drop, sym, ap, ◌∙◌, inl, inr, arith, rules, eq-eqb, ne_eqb}
+use Rattle.std.proofs.Common.{◌≡◌, ℕ, ◌+◌, Bool, cond, get_or, drop, sym, ap, ◌∙◌, inl, inr, arith, eq-eqb, ne_eqb}
 use Rattle.replay.specs.Differences.{differs_in}
 use Rattle.replay.proofs.Differing.{line_after, at_other, at_same, first_ends, second_ends, both_end}
 use Rattle.replay.proofs.difference.scan.Goals as goal

@@ -1,4 +1,4 @@
-use Rattle.std.proofs.Common.{ℕ, List, set, ap, ◌∙◌, arith, rules}
+use Rattle.std.proofs.Common.{ℕ, List, set, ap, ◌∙◌, arith}
 use Rattle.std.proofs.lemmas.List.Edits.{fill_none, fill_more}
 use Rattle.resampling.proofs.children.clear.Goals as goal
 

@@ -1,5 +1,5 @@
-use Rattle.std.proofs.Common.{◌≡◌, ℕ, ◌+◌, ◌*◌, ◌<◌, ◌≤◌, length, sym, refl, ap, ◌∙◌, zero-le, mul-zero, arith, rules}
-use Rattle.resampling.specs.Marks.{total, before, mark, parent}
+use Rattle.std.proofs.Common.{◌≡◌, ◌+◌, ◌*◌, ◌<◌, ◌≤◌, length, refl, zero-le, mul-zero, arith, rules}
+use Rattle.resampling.specs.Marks.{total, before, parent}
 use Rattle.resampling.proofs.Owners.{before_le_total, before_more, mark_more, mark_none}
 use Rattle.resampling.proofs.Passes.{one_more, mul-below, some_weight, is_parent, not_last}
 use Rattle.resampling.proofs.parents.fill.Goals as goal

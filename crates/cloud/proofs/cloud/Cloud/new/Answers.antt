@@ -1,4 +1,4 @@
-use Rattle.std.proofs.Common.{◌≡◌, min, length, ◌∙◌, arith}
+use Rattle.std.proofs.Common.{◌≡◌, min, length, arith}
 use Rattle.cloud.proofs.Making.{made_some, made_begins, rest_of_lent}
 use Rattle.cloud.proofs.cloud.Cloud.new.Goals as goal
 use Rattle.cloud.proofs.cloud.Cloud.new.Goals.{then-all-lt-MOST_NODES, else-all-lt-MOST_NODES}

@@ -1,4 +1,4 @@
-use Rattle.std.proofs.Common.{◌≡◌, ◌+◌, ◌<◌, length, get_or, take, drop, Ok, sym, refl, ap, ◌∙◌, add-zero, arith, length-drop, length-take, get_or-drop, get_or-take, drop-drop}
+use Rattle.std.proofs.Common.{◌≡◌, ◌<◌, length, get_or, take, drop, Ok, sym, refl, ap, ◌∙◌, add-zero, arith, length-drop, length-take, get_or-drop, get_or-take, drop-drop}
 use Rattle.sources.specs.Recordings.{recording, less_first}
 use Rattle.sources.specs.Rows.{recorded_supply}
 use Rattle.sources.proofs.Recordings.{same_row, none_less}
