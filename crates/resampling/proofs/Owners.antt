@@ -102,6 +102,10 @@ module _ (ws : List ℕ) (m : ℕ) where
       go (inr e) (inl f) = let l = f.1 in absurd (omega (arith, mul-le-mul_left (length ws) (before_mono ws (j + 1) i (omega arith))))
       go (inr e) (inr f) = omega (arith, e.1, f.1)
 
+-- the mark is not before that particle's, and before where its marks end
+pub is_owner : (ws : List ℕ) (m i : ℕ) → m < length ws * total ws → i < length ws → length ws * before ws i ≤ m → m < length ws * before ws (i + 1) → i ≡ owner ws m
+is_owner ws m i low within from upto = one_owner ws m i (owner ws m) (record { within = within; from = from; upto = upto }) (owner_has ws m low)
+
 pub mark_low : (ws : List ℕ) (u k : ℕ) → u < total ws → k < length ws → mark ws u k < length ws * total ws
 mark_low ws u k hu hk = omega (arith, suc-mul k (total ws), mul-le-mul_right (total ws) hk)
 

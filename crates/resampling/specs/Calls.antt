@@ -1,5 +1,6 @@
 -- What the calls answer, and when they refuse. Assumes nothing.
-use Rattle.std.specs.Prelude.{ℕ, Bool, true, cond, ◌&&◌, List, [], ◌∷◌, ◌++◌, length, drop, Ok, Err, Result, nat_le, nat_lt}
+use Rattle.std.specs.Prelude.{ℕ, Bool, cond, ◌&&◌, List, ◌++◌, length, drop, Ok, Err, Result, nat_le, nat_lt}
+use Rattle.std.specs.List.{list_all}
 use Rattle.refusals.specs.declared.Refusal.{Refusal}
 use Rattle.refusals.specs.declared.Refusal.TheVariants.{OutOfRange, AllZero, NoRoom}
 use Rattle.resampling.specs.Marks.{total}
@@ -10,8 +11,7 @@ in_range n = nat_le 1 n && nat_le n 256
 
 -- every parent is below n
 abbrev pub all_below : ℕ → List ℕ → Bool
-all_below n [] = true
-all_below n (p ∷ ps) = nat_lt p n && all_below n ps
+all_below n ps = list_all (λ p. nat_lt p n) ps
 
 -- the total of weights that can be resampled
 abbrev pub total_of : List ℕ → Result ℕ Refusal

@@ -9,21 +9,7 @@ use refusals::Refusal;
 fn are_below(parents: &[u32], limit: usize) -> bool
     ensures { result ≡ all_below limit parents.now }
 {
-    for parent in parents {
-        if *parent as usize >= limit {
-            return false;
-        }
-    }
-    true
-}
-
-fn clear(counts: &mut [u32], n: usize)
-    requires { n ≤ length counts.old }
-    ensures { counts.new ≡ replicate n 0 ++ drop n counts.old }
-{
-    for i in 0..n {
-        counts[i] = 0;
-    }
+    parents.iter().all(|parent| (*parent as usize) < limit)
 }
 
 fn tally(parents: &[u32], counts: &mut [u32])
@@ -51,7 +37,7 @@ pub fn write_children(parents: &[u32], row: &mut [u32]) -> Result<usize, Refusal
     if row.len() < n {
         return Err(Refusal::NoRoom);
     }
-    clear(row, n);
+    row[..n].fill(0);
     tally(parents, row);
     Ok(n)
 }

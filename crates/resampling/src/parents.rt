@@ -1,35 +1,71 @@
 // The parents of a resampling.
-ghost use Rattle.std.specs.Prelude.{◌≡◌, ◌<◌, ◌≤◌, ◌++◌, length, take, drop, IfOk};
-ghost use Rattle.resampling.specs.Marks.{total, offset, parents};
+ghost use Rattle.std.specs.Prelude.{◌≡◌, ◌+◌, ◌*◌, ◌<◌, ◌≤◌, ◌++◌, length, take, drop, IfOk};
+ghost use Rattle.resampling.specs.Marks.{total, before, owner, offset, parents};
 ghost use Rattle.resampling.specs.Calls.{parents_reply, row_after};
 ghost use Rattle.resampling.specs.Systematic.{Systematic};
 
 use crate::total::{offset_of, total_weight};
 use refusals::Refusal;
 
-// One pass over marks and particles: mark k and particle i go up in turn, and `end` is where the marks of i end.
+// A pass over the particles: the one where it stands, and the sum of the weights up to and with it.
+#[derive(Clone, Copy)]
+struct Pass<'a> {
+    weights: &'a [u16],
+    particle: usize,
+    sum: u64,
+    ghost few: { length weights.now ≤ 256 },
+    ghost low: { total weights.now ≤ 16776960 },
+    ghost inside: { particle < length weights.now },
+    ghost summed: { sum ≡ before weights.now (particle + 1) },
+}
+
+impl<'a> Pass<'a> {
+    // At the first particle.
+    fn over(weights: &'a [u16]) -> Self
+        requires some { 0 < length weights.now }
+        requires few { length weights.now ≤ 256 }
+        requires low { total weights.now ≤ 16776960 }
+        ensures weights { result.weights.now ≡ weights.now }
+        ensures first { result.particle ≡ 0 }
+    {
+        Pass {
+            weights,
+            particle: 0,
+            sum: u64::from(weights[0]),
+        }
+    }
+
+    // Goes on to the particle that has the mark, which is not one before.
+    fn owner_of(&mut self, mark: u64) -> u32
+        requires from { length self.old.weights.now * before self.old.weights.now self.old.particle ≤ mark }
+        requires upto { mark < length self.old.weights.now * total self.old.weights.now }
+        ensures owner { result ≡ owner self.old.weights.now mark }
+        ensures weights { self.new.weights.now ≡ self.old.weights.now }
+        ensures there { self.new.particle ≡ result }
+    {
+        while self.weights.len() as u64 * self.sum <= mark {
+            let next = self.particle + 1;
+            self.sum += u64::from(self.weights[next]);
+            self.particle = next;
+        }
+        self.particle as u32
+    }
+}
+
+// Particles go up with the marks, so that one pass over them finds all parents.
 fn fill(weights: &[u16], whole: u32, first: u32, row: &mut [u32])
     requires few { length weights.now ≤ 256 }
-    requires room { length weights.now ≤ length row.old }
+    requires room { length row.old ≡ length weights.now }
     requires sum { whole ≡ total weights.now }
     requires low { whole ≤ 16776960 }
     requires inside { first < whole }
-    ensures { row.new ≡ parents weights.now first ++ drop (length weights.now) row.old }
+    ensures { row.new ≡ parents weights.now first }
 {
-    let n = weights.len();
+    let mut pass = Pass::over(weights);
     let mut mark = u64::from(first);
-    let mut i = 0;
-    let mut sum = u64::from(weights[0]);
-    let mut k = 0;
-    while k < n {
-        if mark < n as u64 * sum {
-            row[k] = i as u32;
-            k += 1;
-            mark += u64::from(whole);
-        } else {
-            i += 1;
-            sum += u64::from(weights[i]);
-        }
+    for parent in row.iter_mut() {
+        *parent = pass.owner_of(mark);
+        mark += u64::from(whole);
     }
 }
 
@@ -43,6 +79,11 @@ pub fn write_parents(weights: &[u16], drawn: u32, row: &mut [u32]) -> Result<usi
     if row.len() < weights.len() {
         return Err(Refusal::NoRoom);
     }
-    fill(weights, whole, offset_of(drawn, whole), row);
+    fill(
+        weights,
+        whole,
+        offset_of(drawn, whole),
+        &mut row[..weights.len()],
+    );
     Ok(weights.len())
 }

@@ -12,11 +12,7 @@ fn sum_of(weights: &[u16]) -> u32
     ensures value { result ≡ total weights.now }
     ensures bound { result ≤ 16776960 }
 {
-    let mut sum = 0;
-    for weight in weights {
-        sum += u32::from(*weight);
-    }
-    sum
+    weights.iter().map(|weight| u32::from(*weight)).sum()
 }
 
 // The total of the weights of 1 to 256 particles, which are not all 0.
