@@ -1,4 +1,4 @@
-use Rattle.std.proofs.Common.{◌≡◌, ◌<◌, length, drop, sym, subst, arith, rules}
+use Rattle.std.proofs.Common.{◌≡◌, ◌<◌, sym, subst, arith, rules}
 use Rattle.std.proofs.lemmas.List.{take_at}
 use Rattle.resampling.specs.Marks.{total, offset, parents}
 use Rattle.resampling.specs.Systematic.{Systematic}
@@ -13,4 +13,4 @@ returns-clause-systematic c =
     let whole : c.in_ok-whole.whole ≡ total ws = search rules in
     let inside : u < total ws = offset_below c.args.drawn (total ws) (omega (arith, c.in_ok-whole.ensures.bound)) c.ranges.drawn.fits in
     let row : c.fill.new.row ≡ parents ws u = cc (c.fill.ensures, c.offset_of.ensures.value) in
-    rw row (subst (Systematic ws u) (sym (take_at (parents ws u) (drop (length ws) c.args.row.now) (length ws) (systematic ws u inside).count)) (systematic ws u inside))
+    rw row (subst (Systematic ws u) (sym (take_at _ _ _ (systematic ws u inside).count)) (systematic ws u inside))
