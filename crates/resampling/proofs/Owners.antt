@@ -1,9 +1,9 @@
 -- Which particle has a mark, and that no other has it. Assumes nothing.
-use Rattle.std.proofs.Common.{◌≡◌, ℕ, zero, suc, ◌+◌, ◌*◌, ◌^◌, ◌<◌, ◌≤◌, Bool, true, false, cond, ltb, ◌⊎◌, List, length, get_or, take, sum, refl, ap, ◌∙◌, subst, inl, inr, not-suc-le-zero, add-zero, mul-le-mul_right, suc-mul, mul_comm, div-lt_iff_lt-mul, mul-le-mul_left, mul-lt-mul_of_pos_right, mul-zero, zero-mul, add-one, arith, lit<, ltb-false, ltb-true, leb-false, leb-true}
-use Rattle.std.specs.List.{range_with_len, prefix_len}
-use Rattle.std.proofs.lemmas.List.FromFn.{length-range_with_len}
+use Rattle.std.proofs.Common.{◌≡◌, ℕ, zero, suc, ◌+◌, ◌*◌, ◌^◌, ◌<◌, ◌≤◌, Bool, true, false, ltb, ◌⊎◌, List, length, get_or, take, sum, refl, ap, ◌∙◌, subst, inl, inr, not-suc-le-zero, mul-le-mul_right, suc-mul, mul_comm, div-lt_iff_lt-mul, mul-le-mul_left, mul-lt-mul_of_pos_right, mul-zero, add-one, arith, lit<, ltb-false, ltb-true, leb-false, leb-true}
+use Rattle.std.specs.List.{range_with_len}
+use Rattle.std.proofs.lemmas.List.FromFn.{length-range_with_len, get_or-range_with_len}
 use Rattle.std.proofs.lemmas.List.{take_all, take-take}
-use Rattle.std.proofs.lemmas.List.Sums.{prefix_len-le-length, sum_by-take-le, sum_by_more}
+use Rattle.std.proofs.lemmas.List.Sums.{prefix_len-le-length, prefix_len_passes, prefix_len_stops, sum_by-take-le, sum_by_more}
 use Rattle.resampling.specs.Marks.{total, before, offset, mark, Has, ends_before, owner}
 
 -- one of two orders holds, as a test and as a fact
@@ -16,33 +16,6 @@ order a b = go (ltb a b) refl
     go : (t : Bool) → ltb a b ≡ t → Order a b
     go true e = inl (e, ltb-true a b e)
     go false e = inr (e, ltb-false a b e)
-
--- the longest front of a, a + 1, .. that passes: each in it passes, and the one after it does not
-lead_passes : (p : ℕ → Bool) (a n j : ℕ) → j < prefix_len p (range_with_len a n) → p (a + j) ≡ true
-lead_passes p a zero j h = absurd (not-suc-le-zero h)
-lead_passes p a (suc n) j h = go (p a) refl h (lead_passes p (a + 1) n)
-  where
-    rest : ℕ
-    rest = prefix_len p (range_with_len (a + 1) n)
-
-    first : (j : ℕ) → p a ≡ true → ((i : ℕ) → i < rest → p (a + 1 + i) ≡ true) → j < 1 + rest → p (a + j) ≡ true
-    first zero e ih l = ap p (add-zero a) ∙ e
-    first (suc i) e ih l = ap p (omega arith) ∙ ih i (omega arith)
-
-    go : (t : Bool) → p a ≡ t → j < cond t (1 + rest) 0 → ((i : ℕ) → i < rest → p (a + 1 + i) ≡ true) → p (a + j) ≡ true
-    go true e l ih = first j e ih l
-    go false e l ih = absurd (not-suc-le-zero l)
-
-lead_ends : (p : ℕ → Bool) (a n : ℕ) → prefix_len p (range_with_len a n) < n → p (a + prefix_len p (range_with_len a n)) ≡ false
-lead_ends p a zero h = absurd (not-suc-le-zero h)
-lead_ends p a (suc n) h = go (p a) refl h (lead_ends p (a + 1) n)
-  where
-    rest : ℕ
-    rest = prefix_len p (range_with_len (a + 1) n)
-
-    go : (t : Bool) → p a ≡ t → cond t (1 + rest) 0 < suc n → (rest < n → p (a + 1 + rest) ≡ false) → p (a + cond t (1 + rest) 0) ≡ false
-    go true e l ih = ap p (omega arith) ∙ ih (omega arith)
-    go false e l ih = ap p (add-zero a) ∙ e
 
 -- a front weighs no more than the whole, and a longer one no less
 pub before_le_total : (ws : List ℕ) (j : ℕ) → before ws j ≤ total ws
@@ -62,13 +35,17 @@ module _ (ws : List ℕ) (m : ℕ) where
   unfolding owner
   owner_le = omega (arith, prefix_len-le-length (ends_before ws m) (range_with_len 0 (length ws)), length-range_with_len 0 (length ws))
 
+  -- the test of a particle stands at its place
+  at : (j : ℕ) → j < length ws → ends_before ws m j ≡ ends_before ws m (get_or (range_with_len 0 (length ws)) j 0)
+  at j h = ap (ends_before ws m) (omega (arith, get_or-range_with_len 0 (length ws) j 0 h))
+
   before_owner : (j : ℕ) → j < owner ws m → length ws * before ws (j + 1) ≤ m
   unfolding owner
-  before_owner j h = leb-true _ _ (ap (ends_before ws m) (omega arith) ∙ lead_passes (ends_before ws m) 0 (length ws) j h)
+  before_owner j h = leb-true _ _ (at j (omega (arith, owner_le)) ∙ prefix_len_passes (ends_before ws m) (range_with_len 0 (length ws)) j 0 h)
 
   past_owner : owner ws m < length ws → m < length ws * before ws (owner ws m + 1)
   unfolding owner
-  past_owner h = leb-false _ _ (ap (ends_before ws m) (omega arith) ∙ lead_ends (ends_before ws m) 0 (length ws) h)
+  past_owner h = leb-false _ _ (at (owner ws m) h ∙ prefix_len_stops (ends_before ws m) (range_with_len 0 (length ws)) 0 (omega (arith, length-range_with_len 0 (length ws))))
 
   -- the owner is below j exactly where the mark is below N × C(j)
   pub mark_from_owner : (j : ℕ) → j ≤ length ws → owner ws m < j → m < length ws * before ws j
@@ -111,9 +88,6 @@ mark_low ws u k hu hk = omega (arith, suc-mul k (total ws), mul-le-mul_right (to
 
 pub mark_more : (ws : List ℕ) (u k : ℕ) → mark ws u k + total ws ≡ mark ws u (k + 1)
 mark_more ws u k = rw add-one (omega (arith, suc-mul k (total ws)))
-
-pub mark_none : (ws : List ℕ) (u : ℕ) → mark ws u 0 ≡ u
-mark_none ws u = omega (arith, zero-mul (total ws))
 
 pub offset_below : (r w : ℕ) → 0 < w → r < 2 ^ 32 → offset r w < w
 offset_below r w hw hr = (div-lt_iff_lt-mul {k = 2 ^ 32} (lit< tt)).1 (rw (mul_comm w (2 ^ 32)) (mul-lt-mul_of_pos_right hr hw))

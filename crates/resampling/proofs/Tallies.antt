@@ -1,20 +1,17 @@
 -- One step of a tally of children. Assumes nothing.
-use Rattle.std.proofs.Common.{◌≡◌, ℕ, zero, suc, ◌+◌, ◌<◌, ◌≤◌, true, false, ◌⊎◌, List, [], ◌∷◌, ◌++◌, length, get_or, take, drop, set, replicate, sym, refl, ap, ◌∙◌, inl, inr, le_of_suc-le-suc, not-suc-le-zero, arith}
+use Rattle.std.proofs.Common.{◌≡◌, ℕ, ◌+◌, ◌<◌, ◌≤◌, true, false, ltb, ◌⊎◌, List, ◌++◌, length, get_or, take, drop, set, replicate, sym, ap, ◌∙◌, inl, inr, arith}
 use Rattle.std.proofs.lemmas.List.FromFn.{fill_by_all}
-use Rattle.std.proofs.lemmas.List.{get_or-set_same, get_or-set_other, get_or-take, get_or-replicate, length-take-le, take-append-drop}
-use Rattle.std.proofs.lemmas.List.Sums.{count_by_more_yes, count_by_more_no, count_by-le-length}
-use Rattle.std.proofs.lemmas.Bool.{ltb-true, lt-ltb, le-ltb, le-leb, lt-leb, and_parts, and_from, and_left, and_right, cases_order}
+use Rattle.std.proofs.lemmas.List.{get_or_default, get_or-set_same, get_or-set_other, get_or-take, get_or-replicate, take_all, length-take-le, take-append-drop}
+use Rattle.std.proofs.lemmas.List.Sums.{count_by_more_yes, count_by_more_no, count_by-le-length, AllPass-from_list_all, list_all-from_AllPass}
+use Rattle.std.proofs.lemmas.Bool.{ltb-true, lt-ltb, le-ltb, le-leb, lt-leb, and_from, and_left, and_right, cases_order}
 use Rattle.resampling.specs.Calls.{all_below}
 use Rattle.resampling.specs.Children.{among, children, children_of_each}
 
 pub below_at : (n : ℕ) (ps : List ℕ) (k : ℕ) → all_below n ps ≡ true → k < length ps → get_or ps k 0 < n
-below_at n [] k e h = absurd (not-suc-le-zero h)
-below_at n (p ∷ ps) zero e h = ltb-true p n (and_parts _ _ e).0
-below_at n (p ∷ ps) (suc k) e h = below_at n ps k (and_parts _ _ e).1 (le_of_suc-le-suc h)
+below_at n ps k e h = ltb-true _ _ (AllPass-from_list_all (λ p. ltb p n) ps e k 0 h)
 
 pub below_from : (n : ℕ) (ps : List ℕ) → ((k : ℕ) → k < length ps → get_or ps k 0 < n) → all_below n ps ≡ true
-below_from n [] each = refl
-below_from n (p ∷ ps) each = and_from _ _ (lt-ltb p n (each 0 (omega arith))) (below_from n ps (λ k h. each (suc k) (omega arith)))
+below_from n ps each = list_all-from_AllPass (λ p. ltb p n) ps (λ k d h. lt-ltb _ _ (rw (get_or_default ps k d 0 h) (each k h)))
 
 among_itself : (p : ℕ) → among p (p + 1) p ≡ true
 among_itself p = and_from _ _ (le-leb p p (omega arith)) (lt-ltb p (p + 1) (omega arith))
@@ -62,8 +59,10 @@ children_few ps k i h = omega (arith, count_by-le-length (among i (i + 1)) (take
 pub tally_none : (counts : List ℕ) (n : ℕ) → take n counts ≡ replicate n 0 → (i : ℕ) → i < n → get_or counts i 0 ≡ 0
 tally_none counts n e i h = sym (get_or-take n counts i 0 h) ∙ ap (λ (l : List ℕ). get_or l i 0) e ∙ get_or-replicate n i 0 0 h
 
-pub tally_all : (ps counts old : List ℕ) → length ps ≤ length counts → ((i : ℕ) → i < length ps → get_or counts i 0 ≡ children ps i (i + 1)) → drop (length ps) counts ≡ drop (length ps) old → counts ≡ children_of_each ps ++ drop (length ps) old
-tally_all ps counts old room each rest =
-    sym (take-append-drop (length ps) counts)
-    ∙ ap (λ (l : List ℕ). l ++ drop (length ps) counts) (fill_by_all (λ i. children ps i (i + 1)) (take (length ps) counts) (length ps) 0 (length-take-le (length ps) counts room) (λ i h. get_or-take (length ps) counts i 0 h ∙ each i h))
-    ∙ ap (λ (l : List ℕ). children_of_each ps ++ l) rest
+pub tally_all : (ps counts old : List ℕ) (k : ℕ) → length ps ≤ k → length ps ≤ length counts → ((i : ℕ) → i < length ps → get_or counts i 0 ≡ children (take k ps) i (i + 1)) → drop (length ps) counts ≡ drop (length ps) old → counts ≡ children_of_each ps ++ drop (length ps) old
+tally_all ps counts old k all room each rest =
+    let front : take (length ps) counts ≡ children_of_each ps = fill_by_all (λ i. children ps i (i + 1)) (take (length ps) counts) (length ps) 0 (length-take-le (length ps) counts room) (λ i h. get_or-take (length ps) counts i 0 h ∙ rw (take_all k ps all) at (each i h)) in
+    cc (take-append-drop (length ps) counts)
+
+-- what the search uses at a tally
+pub ruleset tallies = (below_at, children_few, tally_more, tally_none, tally_all)

@@ -12,6 +12,7 @@ fn are_below(parents: &[u32], limit: usize) -> bool
     parents.iter().all(|parent| (*parent as usize) < limit)
 }
 
+#[tactic(auto, using(crate::proofs::Tallies::tallies))]
 fn tally(parents: &[u32], counts: &mut [u32])
     requires few { length parents.now ≤ 256 }
     requires room { length parents.now ≤ length counts.old }
