@@ -79,11 +79,7 @@ pub fn write_parents(weights: &[u16], drawn: u32, row: &mut [u32]) -> Result<usi
     if row.len() < weights.len() {
         return Err(Refusal::NoRoom);
     }
-    fill(
-        weights,
-        whole,
-        offset_of(drawn, whole),
-        &mut row[..weights.len()],
-    );
+    let front = &mut row[..weights.len()];
+    fill(weights, whole, offset_of(drawn, whole), front);
     Ok(weights.len())
 }
