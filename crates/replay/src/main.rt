@@ -20,10 +20,10 @@ fn outcome(rt: &HostRuntime, heap: Global, entry: &str) -> anyhow::Result<Option
         "resample" => report(heap, &input)?,
         _ => return Err(anyhow!("a line of the list names no program")),
     };
-    match first_difference(got.as_bytes(), &wanted) {
-        None => Ok(None),
-        Some(line) => Ok(Some(format!(in heap; "{name}: line {line} differs")?)),
-    }
+    let Some(line) = first_difference(got.as_bytes(), &wanted) else {
+        return Ok(None);
+    };
+    Ok(Some(format!(in heap; "{name}: line {line} differs")?))
 }
 
 fn run(rt: &HostRuntime) -> anyhow::Result<()> {
