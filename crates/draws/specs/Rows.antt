@@ -1,6 +1,6 @@
 -- Rows of states that a model gives with the numbers to come. Assumes nothing.
 use Rattle.std.specs.Prelude.{ℕ, ◌+◌, Bool, true, ◌&&◌, List, [], ◌∷◌, map}
-use Rattle.std.specs.List.{range_with_len}
+use Rattle.std.specs.List.{range_with_len, list_all}
 use Rattle.sources.specs.Supplies.{Supply}
 use Rattle.models.specs.Kinds.{Kind}
 use Rattle.models.specs.Meanings.{Meaning}
@@ -20,5 +20,4 @@ moves m c s xs = moves_from m c s 0 xs
 
 -- every value of the row is a state
 abbrev pub all_states : {S : Type 0} → Kind S → List S → Bool
-all_states k [] = true
-all_states k (x ∷ xs) = k.is x && all_states k xs
+all_states k xs = list_all k.is xs

@@ -13,12 +13,7 @@ use sources::Source;
 fn are_states<S: State>(row: &[S]) -> bool
     ensures { result ≡ all_states S.State.kind row.now }
 {
-    for state in row {
-        if !state.is_state() {
-            return false;
-        }
-    }
-    true
+    row.iter().all(|state| state.is_state())
 }
 
 // The move of a value under the command and the next number.
