@@ -11,7 +11,7 @@ const MOST_PLACES: usize = 256;
 pub(crate) fn in_range(places: usize) -> bool
     ensures { result ≡ in_range places }
 {
-    1 <= places && places <= MOST_PLACES
+    (1..=MOST_PLACES).contains(&places)
 }
 
 // As many numbers as places, if the source can give them.
@@ -19,9 +19,8 @@ pub(crate) fn numbers_for<R: Source>(source: &R, places: usize) -> Result<usize,
     requires { in_range places ≡ true }
     ensures { result ≡ supplied (R.supply source.now) places }
 {
-    if source.can_draw(places as u32) {
-        Ok(places)
-    } else {
-        Err(Refusal::SourceDry)
-    }
+    source
+        .can_draw(places as u32)
+        .then_some(places)
+        .ok_or(Refusal::SourceDry)
 }
