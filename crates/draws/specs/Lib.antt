@@ -1,3 +1,4 @@
 pub mod Rows
 pub mod Replies
 pub mod Carts
+pub mod Steps

@@ -4,16 +4,8 @@ use Rattle.refusals.specs.declared.Refusal.{Refusal}
 use Rattle.refusals.specs.declared.Refusal.TheVariants.{OutOfRange, Unknown, SourceDry}
 use Rattle.sources.specs.Supplies.{Supply, after}
 use Rattle.models.specs.Kinds.{Kind}
-use Rattle.models.specs.Meanings.{Meaning, move_reply}
+use Rattle.models.specs.Meanings.{Meaning}
 use Rattle.draws.specs.Rows.{all_states}
-
--- the birth of the next number
-abbrev pub next_birth : {S : Type 0} → Meaning S → Supply → Result S Refusal
-next_birth m s = cond (s.can 1) (Ok (m.birth (s.to_come 0))) (Err SourceDry)
-
--- the move of a value under a command and the next number
-abbrev pub next_move : {S : Type 0} → Kind S → Meaning S → ℕ → Supply → S → Result S Refusal
-next_move k m c s x = cond (s.can 1) (move_reply k m x c (s.to_come 0)) (Err SourceDry)
 
 -- a row has 1 to 256 places
 abbrev pub in_range : ℕ → Bool

@@ -1,5 +1,5 @@
 -- Rows of states that a model gives with the numbers to come. Assumes nothing.
-use Rattle.std.specs.Prelude.{ℕ, ◌+◌, Bool, true, ◌&&◌, List, [], ◌∷◌, map}
+use Rattle.std.specs.Prelude.{ℕ, ◌+◌, Bool, List, [], ◌∷◌, map}
 use Rattle.std.specs.List.{range_with_len, list_all}
 use Rattle.sources.specs.Supplies.{Supply}
 use Rattle.models.specs.Kinds.{Kind}

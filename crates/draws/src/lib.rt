@@ -5,6 +5,7 @@ pub mod births;
 pub mod cart;
 pub mod moves;
 mod range;
+mod steps;
 
 pub use births::draw_births;
 pub use moves::draw_moves;

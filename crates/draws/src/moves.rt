@@ -1,10 +1,10 @@
 // Rows of moves.
-ghost use Rattle.std.specs.Prelude.{◌≡◌, true, false, length, is_ok, Ok, OnOk};
-ghost use Rattle.sources.specs.Supplies.{after, left};
+ghost use Rattle.std.specs.Prelude.{◌≡◌, true, false, length, is_ok, OnOk};
 ghost use Rattle.draws.specs.Rows.{moves, all_states};
-ghost use Rattle.draws.specs.Replies.{next_move, movable, moves_reply, row_after, supply_after};
+ghost use Rattle.draws.specs.Replies.{moves_reply, row_after, supply_after};
 
 use crate::range::{in_range, numbers_for};
+use crate::steps::step_all;
 use models::model::Model;
 use models::state::State;
 use refusals::Refusal;
@@ -14,38 +14,6 @@ fn are_states<S: State>(row: &[S]) -> bool
     ensures { result ≡ all_states S.State.kind row.now }
 {
     row.iter().all(|state| state.is_state())
-}
-
-// The move of a value under the command and the next number.
-fn next_move<M: Model, R: Source>(
-    model: &M,
-    source: &mut R,
-    command: u8,
-    state: M::State,
-) -> Result<M::State, Refusal>
-    ensures answer { result ≡ next_move M.State.State.kind (M.meaning model.now) command (R.supply source.old) state }
-    ensures rest { R.supply source.new ≡ left (R.supply source.old) }
-{
-    model.advance(state, command, source.draw()?)
-}
-
-fn advance_all<M: Model, R: Source>(
-    model: &M,
-    source: &mut R,
-    command: u8,
-    row: &mut [M::State],
-) -> Result<(), Refusal>
-    requires supplied { (R.supply source.old).can (length row.old) ≡ true }
-    requires known { movable M.State.State.kind (M.meaning model.now) command row.old ≡ true }
-    ensures reply { result ≡ Ok tt }
-    ensures row { row.new ≡ moves (M.meaning model.now) command (R.supply source.old) row.old }
-    ensures rest { R.supply source.new ≡ after (length row.old) (R.supply source.old) }
-    ensures states { all_states M.State.State.kind row.new ≡ true }
-{
-    for place in row.iter_mut() {
-        *place = next_move(model, source, command, *place)?;
-    }
-    Ok(())
 }
 
 // Moves each state of the row under the command, by a number of its own in the row's order, and answers how many.
@@ -68,6 +36,10 @@ pub fn draw_moves<M: Model, R: Source>(
         return Err(Refusal::Unknown);
     }
     let n = numbers_for(source, row.len())?;
-    advance_all(model, source, command, row)?;
+    step_all(
+        source,
+        row,
+        |state, number| model.advance(state, command, number),
+    )?;
     Ok(n)
 }
