@@ -1,8 +1,7 @@
 -- What follows from a supply's laws for draws one after another.
-use Rattle.std.proofs.Common.{◌≡◌, ℕ, zero, suc, ◌+◌, ◌-◌, ◌<◌, ◌≤◌, true, Ok, Err, refl, ap, ◌∙◌, zero-add, arith}
-use mathlib.Core.Path.{fun_ext}
+use Rattle.std.proofs.Common.{◌≡◌, ℕ, zero, suc, ◌+◌, ◌-◌, ◌<◌, ◌≤◌, true, Ok, refl, ap, ◌∙◌, zero-add, arith}
+use Rattle.std.proofs.lemmas.Grind.{common_steps}
 use Rattle.std.proofs.lemmas.Bool.{cond-true}
-use Rattle.refusals.specs.declared.Refusal.{Refusal}
 use Rattle.sources.specs.Supplies.{Supply, Lawful, after, drawn, left}
 
 can_down : (s : Supply) → Lawful s → (d m n : ℕ) → n ≡ m + d → s.can n ≡ true → s.can m ≡ true
@@ -15,16 +14,10 @@ pub can_fewer : (s : Supply) → Lawful s → (m n : ℕ) → m ≤ n → s.can 
 can_fewer s l m n h = can_down s l (n - m) m n (omega arith)
 
 pub after_none : (s : Supply) → after 0 s ≡ s
-after_none s = λ j. record {
-  to_come = fun_ext {f = λ k. s.to_come (k + 0)} {g = s.to_come} (λ k. ap s.to_come (omega arith)) j;
-  can = fun_ext {f = λ k. s.can (k + 0)} {g = s.can} (λ k. ap s.can (omega arith)) j;
-}
+after_none s = grind (arith, common_steps)
 
 pub after_after : (s : Supply) (m n : ℕ) → after m (after n s) ≡ after (n + m) s
-after_after s m n = λ j. record {
-  to_come = fun_ext {f = λ k. s.to_come (k + m + n)} {g = λ k. s.to_come (k + (n + m))} (λ k. ap s.to_come (omega arith)) j;
-  can = fun_ext {f = λ k. s.can (k + m + n)} {g = λ k. s.can (k + (n + m))} (λ k. ap s.can (omega arith)) j;
-}
+after_after s m n = grind (arith, common_steps)
 
 -- draw i of n that can be drawn
 pub draw_at : (s : Supply) → Lawful s → (i n : ℕ) → i < n → s.can n ≡ true → (t : Supply) → t ≡ after i s → (drawn t ≡ Ok (s.to_come i)) × (left t ≡ after (i + 1) s)
@@ -33,7 +26,3 @@ draw_at s l i n h c t e =
       ap drawn e ∙ cond-true (s.can (1 + i)) _ _ k ∙ ap (λ m. Ok (s.to_come m)) (zero-add i),
       ap left e ∙ cond-true (s.can (1 + i)) _ _ k ∙ after_after s 1 i,
     )
-
--- a draw that is granted is not refused
-pub not_refused : (t : Supply) (x : ℕ) (e : Refusal) → drawn t ≡ Ok x → Err e ≡ drawn t → ⊥
-not_refused t x e p q = let z : ◌≡◌ {A = ℕ} 0 1 = cc in omega arith

@@ -9,13 +9,9 @@ pub record Recording : Type 0 where
   pub ever : ℕ
   pub row : List ℕ
 
--- what the source holds if the next number to come stands at place p
-abbrev pub recording_from : ℕ → Recorded → Recording
-recording_from p s = record { ever = s.count; row = drop p (take s.count s.numbers) }
-
 -- what the source holds
 abbrev pub recording : Recorded → Recording
-recording s = recording_from s.place s
+recording s = record { ever = s.count; row = drop s.place (take s.count s.numbers) }
 
 -- before any number was recorded
 abbrev pub nothing_recorded : Recording

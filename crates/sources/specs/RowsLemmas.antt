@@ -1,68 +1,15 @@
--- Rows of numbers: their supply, drawn from at the front and recorded to at the end.
-use Rattle.std.specs.Prelude.{◌≡◌, ℕ, ◌+◌, ◌-◌, ◌^◌, ◌<◌, ◌≤◌, leb, List, [], ◌∷◌, ◌++◌, length, take, drop, replicate, Ok, Err, nat_le, slice_index, slice_index_or, slice_set}
-use Rattle.std.proofs.Common.{ap, sym, ◌∙◌, ⊎_elim, add_comm, arith, length-drop, length-take, get_or-drop, get_or-take, get_or-set_same, get_or-set_other}
-use Rattle.std.proofs.Math.Path.{fun_ext}
-use Rattle.std.proofs.lemmas.Bool.{le-leb, lt-leb, leb-true, cases_lt, cases_eq, cond-true, cond-false}
-use Rattle.std.proofs.lemmas.List.{get_or_past, set_past, take_more_set, get_or-replicate, length-replicate, drop-append-le}
-use Rattle.refusals.specs.declared.Refusal.TheVariants.{SourceDry}
-use Rattle.sources.specs.Supplies.{Lawful, after, drawn, left}
+-- Rows of numbers: the laws of their supply.
+use Rattle.std.specs.Prelude.{ℕ, ◌+◌, List, take, drop, replicate}
+use Rattle.std.proofs.Common.{arith}
+use Rattle.std.proofs.lemmas.Grind.{common_steps}
+use Rattle.sources.specs.Supplies.{Lawful}
 use Rattle.sources.specs.Rows.{recorded_supply, Words}
 
 pub row_lawful : (xs : List ℕ) → Words xs → Lawful (recorded_supply xs)
-row_lawful xs w = record {
-  none = le-leb 0 (length xs) (omega arith);
-  fewer = λ n h. le-leb n (length xs) (omega (arith, leb-true (n + 1) (length xs) h));
-  below = w;
-}
-
-leb_shift : (k m n : ℕ) → n ≤ m → nat_le k (m - n) ≡ nat_le (k + n) m
-leb_shift k m n h = ⊎_elim
-    (λ (l : m - n < k). lt-leb k (m - n) l ∙ sym (lt-leb (k + n) m (omega arith)))
-    (λ (l : k ≤ m - n). le-leb k (m - n) l ∙ sym (le-leb (k + n) m (omega arith)))
-    (cases_lt (m - n) k)
-
--- the row without its first n numbers has the supply once n numbers were drawn
-pub row_after : (n : ℕ) (xs : List ℕ) → n ≤ length xs → recorded_supply (drop n xs) ≡ after n (recorded_supply xs)
-row_after n xs h = λ j. record {
-  to_come = fun_ext {f = λ k. slice_index (drop n xs) k} {g = λ k. slice_index xs (k + n)} (λ k. get_or-drop n xs k 0 ∙ ap (λ i. slice_index xs i) (add_comm n k)) j;
-  can = fun_ext {f = λ k. nat_le k (length (drop n xs))} {g = λ k. nat_le (k + n) (length xs)} (λ k. ap (leb k) (length-drop n xs) ∙ leb_shift k (length xs) n h) j;
-}
-
--- a draw from a row that has a number, and from one that has none
-pub row_drawn : (xs : List ℕ) → 0 < length xs → drawn (recorded_supply xs) ≡ Ok (slice_index xs 0)
-row_drawn xs h = cond-true (nat_le 1 (length xs)) _ _ (le-leb 1 (length xs) (omega arith))
-
-pub row_left : (xs : List ℕ) → 0 < length xs → left (recorded_supply xs) ≡ recorded_supply (drop 1 xs)
-row_left xs h = cond-true (nat_le 1 (length xs)) _ _ (le-leb 1 (length xs) (omega arith)) ∙ sym (row_after 1 xs (omega arith))
-
-pub none_drawn : (xs : List ℕ) → length xs ≡ 0 → drawn (recorded_supply xs) ≡ Err SourceDry
-none_drawn xs h = cond-false (nat_le 1 (length xs)) _ _ (lt-leb 1 (length xs) (omega arith))
-
-pub none_left : (xs : List ℕ) → length xs ≡ 0 → left (recorded_supply xs) ≡ recorded_supply xs
-none_left xs h = cond-false (nat_le 1 (length xs)) _ _ (lt-leb 1 (length xs) (omega arith))
-
--- one number more at the end of the part from p on
-pub part_more : (p n : ℕ) (xs : List ℕ) (v : ℕ) → p ≤ n → n < length xs → drop p (take (n + 1) (slice_set xs n v)) ≡ drop p (take n xs) ++ (v ∷ [])
-part_more p n xs v h l = ap (drop p) (take_more_set xs n v l) ∙ drop-append-le p (take n xs) (v ∷ []) (simp length-take (omega arith))
+row_lawful xs w = record { none = grind (arith, common_steps); fewer = λ n h. grind (arith, common_steps); below = w }
 
 pub words_zeros : (n : ℕ) → Words (replicate n 0)
-words_zeros n k = ⊎_elim
-    (λ (h : k < n). rw (get_or-replicate {A = ℕ} n k 0 0 h) (omega arith))
-    (λ (h : n ≤ k). rw (get_or_past {X = ℕ} (replicate n 0) k 0 (simp length-replicate (omega arith))) (omega arith))
-    (cases_lt k n)
-
-pub words_set : (xs : List ℕ) (i v : ℕ) → Words xs → v < 2 ^ 32 → Words (slice_set xs i v)
-words_set xs i v w h k = ⊎_elim
-    (λ (l : i < length xs). ⊎_elim
-    (λ (e : k ≡ i). rw (e, get_or-set_same) h)
-    (λ (e : k ≡ i → ⊥). rw get_or-set_other (w k))
-    (cases_eq k i))
-    (λ (l : length xs ≤ i). rw set_past (w k))
-    (cases_lt i (length xs))
+words_zeros n = λ k. grind (arith, common_steps)
 
 pub words_part : (p n : ℕ) (xs : List ℕ) → Words xs → Words (drop p (take n xs))
-words_part p n xs w k =
-    rw get_or-drop (⊎_elim
-    (λ (h : p + k < n). rw get_or-take (w (p + k)))
-    (λ (h : n ≤ p + k). let e : slice_index_or (take n xs) (p + k) 0 ≡ 0 = get_or_past (take n xs) (p + k) 0 (simp length-take (omega arith)) in rw e (omega arith))
-    (cases_lt (p + k) n))
+words_part p n xs w = λ k. grind (arith, common_steps, w (p + k))

@@ -1,12 +1,12 @@
 -- Steps of the generator, and its supply after some of them.
 use Rattle.std.specs.Prelude.{◌≡◌, ℕ, zero, suc, ◌+◌, ◌^◌, ◌<◌, refl}
-use Rattle.std.proofs.Common.{ap, sym, ◌∙◌, add_comm, zero-add, suc-add, arith}
-use Rattle.std.proofs.Math.Path.{fun_ext}
+use Rattle.std.proofs.Common.{ap, ◌∙◌, suc-add, arith}
+use Rattle.std.proofs.lemmas.Grind.{common_steps}
 use Rattle.sources.specs.Supplies.{after, Lawful}
 use Rattle.sources.specs.Generators.{step, steps, generator_supply}
 
 pub steps_add : (m n v : ℕ) → steps (m + n) v ≡ steps n (steps m v)
-steps_add zero n v = ap (λ k. steps k v) (zero-add n)
+steps_add zero n v = grind (arith, common_steps)
 steps_add (suc m) n v = ap (λ k. steps k v) (suc-add m n) ∙ steps_add m n (step v)
 
 pub step_steps : (n v : ℕ) → step (steps n v) ≡ steps n (step v)
@@ -22,8 +22,4 @@ generator_lawful v = record { none = refl; fewer = λ n h. refl; below = λ k. s
 
 -- the supply from the value after n steps on is the supply once n numbers were drawn
 pub generator_after : (n v : ℕ) → generator_supply (steps n v) ≡ after n (generator_supply v)
-generator_after n v = λ j. record {
-  to_come = fun_ext {f = λ k. steps k (step (steps n v))} {g = λ k. steps (k + n) (step v)}
-      (λ k. ap (steps k) (step_steps n v) ∙ sym (steps_add n k (step v)) ∙ ap (λ m. steps m (step v)) (add_comm n k)) j;
-  can = λ m. (generator_supply v).can m;
-}
+generator_after n v = grind (arith, common_steps, step_steps n v, λ (k : ℕ). steps_add n k (step v))

@@ -10,15 +10,24 @@ pub struct Restore<'a> {
     pub saved: Generator,
 }
 
+impl<'a> Restore<'a> {
+    // A guard that puts the generator back as it is now.
+    pub fn over(generator: &'a mut Generator) -> Self
+        ensures same { result.generator.ghost_name ≡ generator.entry.ghost_name }
+        ensures kept { result.generator.now ≡ generator.old }
+        ensures saved { result.saved ≡ generator.old }
+    {
+        let saved = *generator;
+        Restore { generator, saved }
+    }
+}
+
 impl Drop for Restore<'_> {
     fn drop(self)
         ensures { self.exit.0.now ≡ self.entry.saved }
     {
-        *self.generator = self.saved;
-        let Restore {
-            generator: _,
-            saved: _,
-        } = self;
+        let Restore { generator, saved } = self;
+        *generator = saved;
     }
 }
 
@@ -27,7 +36,6 @@ pub fn peek(generator: &mut Generator) -> u32
     ensures number { result ≡ step generator.old.value }
     ensures kept { generator.new ≡ generator.old }
 {
-    let saved = *generator;
-    let guard = Restore { generator, saved };
+    let guard = Restore::over(generator);
     guard.generator.next_number()
 }

@@ -1,7 +1,7 @@
 // Recording numbers, and drawing those that were recorded.
-ghost use Rattle.std.specs.Prelude.{◌≡◌, ◌+◌, ◌<◌, length, Err, slice_index};
+ghost use Rattle.std.specs.Prelude.{◌≡◌, Err};
 ghost use Rattle.refusals.specs.declared.Refusal.TheVariants.{NoRoom};
-ghost use Rattle.sources.specs.Recordings.{recording, recording_from, nothing_recorded, record_reply, with_number, pushed, less_first};
+ghost use Rattle.sources.specs.Recordings.{recording, nothing_recorded, record_reply, with_number, less_first};
 ghost use Rattle.sources.specs.Rows.{recorded_supply};
 ghost use Rattle.sources.specs.Supplies.{drawn, left};
 ghost use Rattle.sources.specs.RowsLemmas.{row_lawful, words_part};
@@ -40,34 +40,16 @@ impl Recorded {
         if self.count >= Self::ROOM {
             return Err(Refusal::NoRoom);
         }
-        self.push(v);
+        self.numbers[self.count] = v;
+        self.count += 1;
         Ok(())
     }
 
-    fn push(&mut self, v: u32)
-        requires { self.old.count < 512 }
-        ensures { recording self.new ≡ pushed v (recording self.old) }
+    // The numbers still to come.
+    fn to_come(&self) -> &[u32]
+        ensures { result.now ≡ (recording self.now).row }
     {
-        let at = self.count;
-        self.numbers[at] = v;
-        self.count = at + 1;
-    }
-
-    // How many numbers are still to come.
-    fn to_come(&self) -> usize
-        ensures { result ≡ length (recording self.now).row }
-    {
-        self.count - self.place
-    }
-
-    fn take_next(&mut self) -> u32
-        requires { self.old.place < self.old.count }
-        ensures number { result ≡ slice_index self.old.numbers self.old.place }
-        ensures holds { recording self.new ≡ recording_from (self.old.place + 1) self.old }
-    {
-        let number = self.numbers[self.place];
-        self.place += 1;
-        number
+        &self.numbers[self.place..self.count]
     }
 }
 
@@ -79,7 +61,7 @@ impl Source for Recorded {
     ghost lawful = { λ s. row_lawful _ (words_part s.place s.count s.numbers s.words) };
 
     fn can_draw(&self, n: u32) -> bool {
-        n as usize <= self.to_come()
+        n as usize <= self.to_come().len()
     }
 
     fn draw(&mut self) -> Result<u32, Refusal>
@@ -88,9 +70,8 @@ impl Source for Recorded {
         ensures same { (recording self.new).ever ≡ (recording self.old).ever }
         ensures holds { recording self.new ≡ less_first (recording self.old) }
     {
-        if self.place >= self.count {
-            return Err(Refusal::SourceDry);
-        }
-        Ok(self.take_next())
+        let number = *self.to_come().first().ok_or(Refusal::SourceDry)?;
+        self.place += 1;
+        Ok(number)
     }
 }
