@@ -3,9 +3,11 @@ use Rattle.std.specs.Prelude.{ℕ, ◌+◌, ◌-◌, ◌/◌, ◌%◌, ◌^◌, 
 use Rattle.std.specs.Option.{unwrap_or}
 use Rattle.std.specs.List.{range_with_len, prefix_len}
 use Rattle.refusals.specs.declared.Refusal.{Refusal}
-use Rattle.refusals.specs.declared.Refusal.TheVariants.{OutOfRange}
+use Rattle.refusals.specs.declared.Refusal.TheVariants.{OutOfRange, Unknown}
 use Rattle.models.specs.Meanings.{Meaning}
 use Rattle.models.specs.Poses.{pose, heading_of, right, left}
+use Rattle.models.specs.declared.grid.Command.{Command}
+use Rattle.models.specs.declared.grid.Command.TheVariants.{Stay, Forward, TurnRight, TurnLeft}
 use Rattle.models.specs.declared.pose.Heading.{Heading}
 use Rattle.models.specs.declared.pose.Heading.TheVariants.{North, East, South, West}
 use Rattle.models.specs.declared.pose.Pose.{Pose}
@@ -65,6 +67,15 @@ forward rows p r = cond (overruns r) (overrun_forward rows p) (single_forward ro
 -- the pose after a turn
 abbrev pub turned : (Heading → Heading) → Pose → Pose
 turned t p = pose p.x p.y (t p.heading)
+
+-- the command that has the number, and a refusal of a number that no command has
+abbrev pub command_reply : ℕ → Result Command Refusal
+command_reply c =
+    cond (c == 0) (Ok Stay)
+    (cond (c == 1) (Ok Forward)
+    (cond (c == 2) (Ok TurnRight)
+    (cond (c == 3) (Ok TurnLeft)
+    (Err Unknown))))
 
 -- command 0 stays, 1 goes forward, 2 turns right, 3 turns left
 abbrev pub grid_move : List ℕ → Pose → ℕ → ℕ → Pose

@@ -1,7 +1,13 @@
 -- The lift: a table that is raised and lowered. Assumes nothing.
-use Rattle.std.specs.Prelude.{ℕ, ◌+◌, ◌/◌, ◌^◌, min, Bool, true, false, cond, not, ◌&&◌, ◌==◌, nat_le, nat_lt}
+use Rattle.std.specs.Prelude.{ℕ, ◌+◌, ◌/◌, ◌^◌, min, Bool, true, false, cond, not, ◌&&◌, Ok, Err, Result, ◌==◌, nat_le, nat_lt}
+use Rattle.refusals.specs.declared.Refusal.{Refusal}
+use Rattle.refusals.specs.declared.Refusal.TheVariants.{Unknown}
 use Rattle.models.specs.Meanings.{Meaning}
 use Rattle.models.specs.LiftStates.{lift_state, mode_of}
+use Rattle.models.specs.declared.lift.Command.{Command}
+use Rattle.models.specs.declared.lift.Command.TheVariants.{GoOn, Raise, Lower}
+use Rattle.models.specs.declared.lift.Reading.{Reading}
+use Rattle.models.specs.declared.lift.Reading.TheVariants.{Rests, Lowers, Rises}
 use Rattle.models.specs.declared.lift_state.Mode.{Mode}
 use Rattle.models.specs.declared.lift_state.Mode.TheVariants.{Down, Rising, Up, Lowering}
 use Rattle.models.specs.declared.lift_state.LiftState.{LiftState}
@@ -32,12 +38,28 @@ run_on Rising n r = cond (arrives n r) (lift_state Up 0) (counted Rising n)
 run_on Up n r = counted Up n
 run_on Lowering n r = cond (arrives n r) (lift_state Down 0) (counted Lowering n)
 
+-- the command that has the number, and a refusal of a number that no command has
+abbrev pub command_reply : ℕ → Result Command Refusal
+command_reply c =
+    cond (c == 0) (Ok GoOn)
+    (cond (c == 1) (Ok Raise)
+    (cond (c == 2) (Ok Lower)
+    (Err Unknown)))
+
 -- command 1 raises a low table, 2 lowers a high one, and else it runs on
 abbrev pub lift_move : LiftState → ℕ → ℕ → LiftState
 lift_move s c r =
     cond (c == 1 && low s.mode) (lift_state Rising 0)
     (cond (c == 2 && not (low s.mode)) (lift_state Lowering 0)
     (run_on s.mode s.counter r))
+
+-- the reading that has the number, and a refusal of a number that no reading has
+abbrev pub reading_reply : ℕ → Result Reading Refusal
+reading_reply q =
+    cond (q == 0) (Ok Rests)
+    (cond (q == 1) (Ok Lowers)
+    (cond (q == 2) (Ok Rises)
+    (Err Unknown)))
 
 -- the scores of readings 0, 1 and 2
 abbrev pub of_three : ℕ → ℕ → ℕ → ℕ → ℕ

@@ -1,12 +1,37 @@
 // The grid: a cart on a map of 32 by 32 cells.
 ghost use Rattle.std.specs.Prelude.{◌≡◌, ◌<◌, ◌≤◌, replicate};
-ghost use Rattle.models.specs.Grids.{wall, row_reply, rows_after, ahead, reach, single_forward, overrun_forward, forward, grid_meaning};
+ghost use Rattle.models.specs.Grids.{wall, row_reply, rows_after, ahead, reach, single_forward, overrun_forward, forward, command_reply, grid_meaning};
 ghost use Rattle.models.specs.Laws.{grid_lawful};
 
 use crate::model::Model as FilterModel;
 use crate::pose::{Heading, Pose};
 use crate::state::{State, State as _};
 use refusals::Refusal;
+
+// What a cart can be told to do.
+#[derive(Clone, Copy)]
+pub(crate) enum Command {
+    Stay,
+    Forward,
+    TurnRight,
+    TurnLeft,
+}
+
+impl TryFrom<u8> for Command {
+    type Error = Refusal;
+
+    ghost try_from_gives = { λ number reply. reply ≡ command_reply number };
+
+    fn try_from(number: u8) -> Result<Self, Refusal> {
+        match number {
+            0 => Ok(Command::Stay),
+            1 => Ok(Command::Forward),
+            2 => Ok(Command::TurnRight),
+            3 => Ok(Command::TurnLeft),
+            _ => Err(Refusal::Unknown),
+        }
+    }
+}
 
 // The map: bit x of row y is set where there is a wall.
 #[derive(Clone, Copy)]
@@ -102,7 +127,7 @@ impl FilterModel for Grid {
     ghost lawful = { λ g. grid_lawful g.rows };
 
     fn knows_command(&self, command: u8) -> bool {
-        command < 4
+        Command::try_from(command).is_ok()
     }
 
     fn knows_reading(&self, reading: u8) -> bool {
@@ -121,19 +146,18 @@ impl FilterModel for Grid {
         if !state.is_state() {
             return Err(Refusal::Unknown);
         }
-        match command {
-            0 => Ok(state),
-            1 => Ok(self.forward(state, number)),
-            2 => Ok(Pose {
+        Ok(match Command::try_from(command)? {
+            Command::Stay => state,
+            Command::Forward => self.forward(state, number),
+            Command::TurnRight => Pose {
                 heading: state.heading.turned_right(),
                 ..state
-            }),
-            3 => Ok(Pose {
+            },
+            Command::TurnLeft => Pose {
                 heading: state.heading.turned_left(),
                 ..state
-            }),
-            _ => Err(Refusal::Unknown),
-        }
+            },
+        })
     }
 
     fn score(&self, state: Pose, reading: u8) -> Result<u16, Refusal> {

@@ -1,6 +1,6 @@
 // States of the lift.
 ghost use Rattle.std.specs.Prelude.{◌≡◌};
-ghost use Rattle.models.specs.LiftStates.{lift_kind, lift_coding, mode_number, mode_of};
+ghost use Rattle.models.specs.LiftStates.{lift_kind, lift_coding, lift_state, mode_of};
 ghost use Rattle.models.specs.Laws.{lift_exact};
 
 use crate::state::{Coded, State};
@@ -34,6 +34,15 @@ pub struct LiftState {
     pub counter: u8,
 }
 
+impl LiftState {
+    // The mode, with no move in it yet.
+    pub(crate) fn begun(mode: Mode) -> Self
+        ensures { result ≡ lift_state mode 0 }
+    {
+        LiftState { mode, counter: 0 }
+    }
+}
+
 impl State for LiftState {
     ghost kind = { lift_kind };
 
@@ -48,21 +57,14 @@ impl Coded for LiftState {
     ghost exact = { lift_exact };
 
     fn code(self) -> Option<u32> {
-        if self.is_state() {
-            Some(100 * self.mode as u32 + u32::from(self.counter))
-        } else {
-            None
-        }
+        self.is_state()
+            .then(|| 100 * self.mode as u32 + u32::from(self.counter))
     }
 
     fn from_code(n: u32) -> Option<LiftState> {
-        if n < 400 {
-            Some(LiftState {
-                mode: Mode::from_number(n / 100),
-                counter: (n % 100) as u8,
-            })
-        } else {
-            None
-        }
+        (n < 400).then(|| LiftState {
+            mode: Mode::from_number(n / 100),
+            counter: (n % 100) as u8,
+        })
     }
 }
