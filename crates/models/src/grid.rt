@@ -138,7 +138,7 @@ impl FilterModel for Grid {
         Pose {
             x: (number >> 27) as u8,
             y: ((number >> 22) % 32) as u8,
-            heading: Heading::from_number((number >> 20) % 4),
+            heading: Heading::ALL[((number >> 20) % 4) as usize],
         }
     }
 

@@ -91,7 +91,7 @@ impl FilterModel for Lift {
     }
 
     fn birth(&self, number: u32) -> LiftState {
-        LiftState::begun(Mode::from_number(number >> 30))
+        LiftState::begun(Mode::ALL[(number >> 30) as usize])
     }
 
     fn advance(&self, state: LiftState, command: u8, number: u32) -> Result<LiftState, Refusal> {

@@ -1,6 +1,6 @@
 // States of the lift.
 ghost use Rattle.std.specs.Prelude.{◌≡◌};
-ghost use Rattle.models.specs.LiftStates.{lift_kind, lift_coding, lift_state, mode_of};
+ghost use Rattle.models.specs.LiftStates.{lift_kind, lift_coding, lift_state};
 ghost use Rattle.models.specs.Laws.{lift_exact};
 
 use crate::state::{Coded, State};
@@ -15,16 +15,8 @@ pub enum Mode {
 }
 
 impl Mode {
-    pub(crate) fn from_number(n: u32) -> Mode
-        ensures { result ≡ mode_of n }
-    {
-        match n {
-            0 => Mode::Down,
-            1 => Mode::Rising,
-            2 => Mode::Up,
-            _ => Mode::Lowering,
-        }
-    }
+    // Each mode at the place of its number.
+    pub(crate) const ALL: [Mode; 4] = [Mode::Down, Mode::Rising, Mode::Up, Mode::Lowering];
 }
 
 // A mode, and how many moves it has lasted, up to 99.
@@ -58,12 +50,12 @@ impl Coded for LiftState {
 
     fn code(self) -> Option<u32> {
         self.is_state()
-            .then(|| 100 * self.mode as u32 + u32::from(self.counter))
+            .then_some(100 * self.mode as u32 + u32::from(self.counter))
     }
 
     fn from_code(n: u32) -> Option<LiftState> {
         (n < 400).then(|| LiftState {
-            mode: Mode::from_number(n / 100),
+            mode: Mode::ALL[(n / 100) as usize],
             counter: (n % 100) as u8,
         })
     }

@@ -15,37 +15,24 @@ pub enum Heading {
 }
 
 impl Heading {
-    pub(crate) fn from_number(n: u32) -> Heading
-        ensures { result ≡ heading_of n }
-    {
-        match n {
-            0 => Heading::North,
-            1 => Heading::East,
-            2 => Heading::South,
-            _ => Heading::West,
-        }
-    }
+    // Each heading at the place of its number.
+    pub(crate) const ALL: [Heading; 4] = [
+        Heading::North,
+        Heading::East,
+        Heading::South,
+        Heading::West,
+    ];
 
     pub(crate) fn turned_right(self) -> Heading
         ensures { result ≡ right self }
     {
-        match self {
-            Heading::North => Heading::East,
-            Heading::East => Heading::South,
-            Heading::South => Heading::West,
-            Heading::West => Heading::North,
-        }
+        Self::ALL[(self as usize + 1) % 4]
     }
 
     pub(crate) fn turned_left(self) -> Heading
         ensures { result ≡ left self }
     {
-        match self {
-            Heading::North => Heading::West,
-            Heading::East => Heading::North,
-            Heading::South => Heading::East,
-            Heading::West => Heading::South,
-        }
+        Self::ALL[(self as usize + 3) % 4]
     }
 }
 
@@ -71,22 +58,15 @@ impl Coded for Pose {
     ghost exact = { pose_exact };
 
     fn code(self) -> Option<u32> {
-        if self.is_state() {
-            Some(u32::from(self.x) + 32 * u32::from(self.y) + 1024 * self.heading as u32)
-        } else {
-            None
-        }
+        let cell = u32::from(self.x) + 32 * u32::from(self.y);
+        self.is_state().then_some(cell + 1024 * self.heading as u32)
     }
 
     fn from_code(n: u32) -> Option<Pose> {
-        if n < 4096 {
-            Some(Pose {
-                x: (n % 32) as u8,
-                y: (n / 32 % 32) as u8,
-                heading: Heading::from_number(n / 1024),
-            })
-        } else {
-            None
-        }
+        (n < 4096).then(|| Pose {
+            x: (n % 32) as u8,
+            y: (n / 32 % 32) as u8,
+            heading: Heading::ALL[(n / 1024) as usize],
+        })
     }
 }
