@@ -1,7 +1,8 @@
 -- The expected reading counts the free cells ahead. Assumes nothing.
-use Rattle.std.proofs.Common.{◌≡◌, ℕ, zero, suc, ◌+◌, ◌-◌, ◌<◌, ◌≤◌, Bool, true, false, cond, ltb, leb, List, is_some, None, refl, ap, ◌∙◌, ⊎_elim, not-suc-le-zero, add-zero, arith}
-use Rattle.std.specs.List.{range_with_len, prefix_len}
-use Rattle.std.proofs.lemmas.List.Sums.{prefix_len-le-length}
+use Rattle.std.proofs.Common.{◌≡◌, ℕ, ◌+◌, ◌-◌, ◌<◌, ◌≤◌, true, false, ltb, leb, List, is_some, None, ap, ◌∙◌, ⊎_elim, arith}
+use Rattle.std.specs.List.{range_with_len}
+use Rattle.std.proofs.lemmas.List.FromFn.{get_or-range_with_len}
+use Rattle.std.proofs.lemmas.List.Sums.{prefix_len-le-length, prefix_len_passes, prefix_len_stops}
 use Rattle.std.proofs.lemmas.Bool.{and_parts, ltb-true, cond-false, le-ltb, lt-leb, cases_lt}
 use Rattle.models.specs.Poses.{on_grid}
 use Rattle.models.specs.Grids.{further, unless_wall, free_at, expected_reading}
@@ -9,33 +10,6 @@ use Rattle.models.specs.Readings.{FreeAhead}
 use Rattle.models.specs.declared.pose.Heading.{Heading}
 use Rattle.models.specs.declared.pose.Heading.TheVariants.{North, East, South, West}
 use Rattle.models.specs.declared.pose.Pose.{Pose}
-
--- the longest front of a, a + 1, .. that passes: each in it passes, and the one after it does not
-passes : (p : ℕ → Bool) (a n j : ℕ) → j < prefix_len p (range_with_len a n) → p (a + j) ≡ true
-passes p a zero j h = absurd (not-suc-le-zero h)
-passes p a (suc n) j h = go (p a) refl h (passes p (a + 1) n)
-  where
-    rest : ℕ
-    rest = prefix_len p (range_with_len (a + 1) n)
-
-    first : (j : ℕ) → p a ≡ true → ((i : ℕ) → i < rest → p (a + 1 + i) ≡ true) → j < 1 + rest → p (a + j) ≡ true
-    first zero e ih l = ap p (add-zero a) ∙ e
-    first (suc i) e ih l = ap p (omega arith) ∙ ih i (omega arith)
-
-    go : (t : Bool) → p a ≡ t → j < cond t (1 + rest) 0 → ((i : ℕ) → i < rest → p (a + 1 + i) ≡ true) → p (a + j) ≡ true
-    go true e l ih = first j e ih l
-    go false e l ih = absurd (not-suc-le-zero l)
-
-fails_after : (p : ℕ → Bool) (a n : ℕ) → prefix_len p (range_with_len a n) < n → p (a + prefix_len p (range_with_len a n)) ≡ false
-fails_after p a zero h = absurd (not-suc-le-zero h)
-fails_after p a (suc n) h = go (p a) refl h (fails_after p (a + 1) n)
-  where
-    rest : ℕ
-    rest = prefix_len p (range_with_len (a + 1) n)
-
-    go : (t : Bool) → p a ≡ t → cond t (1 + rest) 0 < suc n → (rest < n → p (a + 1 + rest) ≡ false) → p (a + cond t (1 + rest) 0) ≡ false
-    go true e l ih = ap p (omega arith) ∙ ih (omega arith)
-    go false e l ih = ap p (add-zero a) ∙ e
 
 -- nothing is inside 32 cells ahead
 outside : (h : Heading) (x y : ℕ) → x < 32 → y < 32 → further h x y 32 ≡ None
@@ -64,11 +38,14 @@ reading_most rows p = prefix_len-le-length (free_at rows p) (range_with_len 1 31
 
 reading_passes : (rows : List ℕ) (p : Pose) (j : ℕ) → j < expected_reading rows p → free_at rows p (1 + j) ≡ true
 unfolding expected_reading
-reading_passes rows p = passes (free_at rows p) 1 31
+reading_passes rows p j h =
+    let l : j < 31 = omega (arith, reading_most rows p) in
+    rw get_or-range_with_len at (prefix_len_passes (free_at rows p) (range_with_len 1 31) j 0 h)
 
 reading_fails_after : (rows : List ℕ) (p : Pose) → expected_reading rows p < 31 → free_at rows p (1 + expected_reading rows p) ≡ false
 unfolding expected_reading
-reading_fails_after rows p = fails_after (free_at rows p) 1 31
+reading_fails_after rows p h =
+    rw get_or-range_with_len at (prefix_len_stops (free_at rows p) (range_with_len 1 31) 0 h)
 
 pub free_ahead : (rows : List ℕ) (p : Pose) → on_grid p ≡ true → FreeAhead rows p (expected_reading rows p)
 free_ahead rows p h =

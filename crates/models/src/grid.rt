@@ -1,11 +1,12 @@
 // The grid: a cart on a map of 32 by 32 cells.
 ghost use Rattle.std.specs.Prelude.{◌≡◌, ◌<◌, ◌≤◌, replicate};
-ghost use Rattle.models.specs.Grids.{wall, row_reply, rows_after, ahead, reach, single_forward, overrun_forward, forward, command_reply, grid_meaning};
+ghost use Rattle.models.specs.Grids.{wall, row_reply, rows_after, reach, single_forward, overrun_forward, forward, command_reply, grid_meaning};
 ghost use Rattle.models.specs.Laws.{grid_lawful};
 
 use crate::model::Model as FilterModel;
+use crate::placed::Placed;
 use crate::pose::{Heading, Pose};
-use crate::state::{State, State as _};
+use crate::state::State;
 use refusals::Refusal;
 
 // What a cart can be told to do.
@@ -39,20 +40,6 @@ pub struct Grid {
     rows: [u32; 32],
 }
 
-// The pose d cells ahead, or none where that is outside.
-fn ahead(p: Pose, d: u8) -> Option<Pose>
-    requires { (p.x < 32) × ((p.y < 32) × (d ≤ 32)) }
-    ensures { result ≡ ahead p d }
-{
-    match p.heading {
-        Heading::North if d <= p.y => Some(Pose { y: p.y - d, ..p }),
-        Heading::East if p.x + d < 32 => Some(Pose { x: p.x + d, ..p }),
-        Heading::South if p.y + d < 32 => Some(Pose { y: p.y + d, ..p }),
-        Heading::West if d <= p.x => Some(Pose { x: p.x - d, ..p }),
-        _ => None,
-    }
-}
-
 impl Grid {
     // A map with no wall.
     pub fn empty() -> Self
@@ -74,42 +61,34 @@ impl Grid {
     }
 
     // The pose is in a wall.
-    pub(crate) fn wall(&self, p: Pose) -> bool
-        requires { (p.x < 32) × (p.y < 32) }
-        ensures { result ≡ wall self.now.rows p.x p.y }
+    pub(crate) fn wall(&self, p: Placed) -> bool
+        ensures { result ≡ wall self.now.rows p.pose.x p.pose.y }
     {
-        (self.rows[p.y as usize] >> p.x) % 2 == 1
+        (self.rows[usize::from(p.pose.y)] >> p.pose.x) % 2 == 1
     }
 
     // The pose d cells ahead, if that cell is inside and free.
-    pub(crate) fn reach(&self, p: Pose, d: u8) -> Option<Pose>
-        requires { (p.x < 32) × ((p.y < 32) × (d ≤ 32)) }
-        ensures { result ≡ reach self.now.rows p d }
+    pub(crate) fn reach(&self, p: Placed, d: u8) -> Option<Pose>
+        ensures { result ≡ reach self.now.rows p.pose d }
     {
-        let q = ahead(p, d)?;
-        if self.wall(q) { None } else { Some(q) }
+        let q = p.ahead(d)?;
+        (!self.wall(q)).then_some(q.pose)
     }
 
-    fn single_forward(&self, p: Pose) -> Pose
-        requires { (p.x < 32) × (p.y < 32) }
-        ensures { result ≡ single_forward self.now.rows p }
+    fn single_forward(&self, p: Placed) -> Pose
+        ensures { result ≡ single_forward self.now.rows p.pose }
     {
-        self.reach(p, 1).unwrap_or(p)
+        self.reach(p, 1).unwrap_or(p.pose)
     }
 
-    fn overrun_forward(&self, p: Pose) -> Pose
-        requires { (p.x < 32) × (p.y < 32) }
-        ensures { result ≡ overrun_forward self.now.rows p }
+    fn overrun_forward(&self, p: Placed) -> Pose
+        ensures { result ≡ overrun_forward self.now.rows p.pose }
     {
-        match self.reach(p, 2) {
-            Some(q) => q,
-            None => self.single_forward(p),
-        }
+        self.reach(p, 2).unwrap_or_else(|| self.single_forward(p))
     }
 
-    fn forward(&self, p: Pose, number: u32) -> Pose
-        requires { (p.x < 32) × (p.y < 32) }
-        ensures { result ≡ forward self.now.rows p number }
+    fn forward(&self, p: Placed, number: u32) -> Pose
+        ensures { result ≡ forward self.now.rows p.pose number }
     {
         if number >> 29 == 7 {
             self.overrun_forward(p)
@@ -143,12 +122,10 @@ impl FilterModel for Grid {
     }
 
     fn advance(&self, state: Pose, command: u8, number: u32) -> Result<Pose, Refusal> {
-        if !state.is_state() {
-            return Err(Refusal::Unknown);
-        }
+        let p = Placed::try_from(state)?;
         Ok(match Command::try_from(command)? {
             Command::Stay => state,
-            Command::Forward => self.forward(state, number),
+            Command::Forward => self.forward(p, number),
             Command::TurnRight => Pose {
                 heading: state.heading.turned_right(),
                 ..state
@@ -161,13 +138,14 @@ impl FilterModel for Grid {
     }
 
     fn score(&self, state: Pose, reading: u8) -> Result<u16, Refusal> {
-        if !state.is_state() || !self.knows_reading(reading) {
+        let p = Placed::try_from(state)?;
+        if !self.knows_reading(reading) {
             return Err(Refusal::Unknown);
         }
-        if self.wall(state) {
+        if self.wall(p) {
             return Ok(0);
         }
-        Ok(match self.expected_reading(state).abs_diff(reading) {
+        Ok(match self.expected_reading(p).abs_diff(reading) {
             0 => 1000,
             1 => 400,
             2 => 100,

@@ -6,6 +6,7 @@ pub mod grid;
 pub mod lift;
 pub mod lift_state;
 pub mod model;
+mod placed;
 pub mod pose;
 mod range;
 pub mod slip;

@@ -1,6 +1,6 @@
 // Poses on the grid.
 ghost use Rattle.std.specs.Prelude.{◌≡◌};
-ghost use Rattle.models.specs.Poses.{pose_kind, pose_coding, heading_number, heading_of, right, left};
+ghost use Rattle.models.specs.Poses.{pose_kind, pose_coding, right, left};
 ghost use Rattle.models.specs.Laws.{pose_exact};
 
 use crate::state::{Coded, State};

@@ -1,21 +1,15 @@
 // What a cart on the grid should measure.
-ghost use Rattle.std.specs.Prelude.{◌≡◌, ◌<◌};
+ghost use Rattle.std.specs.Prelude.{◌≡◌};
 ghost use Rattle.models.specs.Grids.{expected_reading};
 
 use crate::grid::Grid;
-use crate::pose::Pose;
+use crate::placed::Placed;
 
 impl Grid {
     // How many cells ahead are free, before the first wall or the edge.
-    pub(crate) fn expected_reading(&self, p: Pose) -> u8
-        requires { (p.x < 32) × (p.y < 32) }
-        ensures { result ≡ expected_reading self.now.rows p }
+    pub(crate) fn expected_reading(&self, p: Placed) -> u8
+        ensures { result ≡ expected_reading self.now.rows p.pose }
     {
-        for d in 0u8..31 {
-            if self.reach(p, d + 1).is_none() {
-                return d;
-            }
-        }
-        31
+        (1..32).take_while(|d| self.reach(p, *d).is_some()).count() as u8
     }
 }

@@ -1,0 +1,47 @@
+// Poses on the map.
+ghost use Rattle.std.specs.Prelude.{◌≡◌, true, cond, Ok, Err};
+ghost use Rattle.std.specs.Option.{option_map};
+ghost use Rattle.std.specs.Result.{result_map_both};
+ghost use Rattle.refusals.specs.declared.Refusal.TheVariants.{Unknown};
+ghost use Rattle.models.specs.Poses.{on_grid};
+ghost use Rattle.models.specs.Grids.{ahead};
+
+use crate::pose::{Heading, Pose};
+use crate::state::State as _;
+use refusals::Refusal;
+
+// A pose whose cell is on the map.
+#[derive(Clone, Copy)]
+pub(crate) struct Placed {
+    pub(crate) pose: Pose,
+    ghost on_map: { on_grid pose ≡ true },
+}
+
+impl TryFrom<Pose> for Placed {
+    type Error = Refusal;
+
+    ghost try_from_gives = { λ pose reply. result_map_both (λ p. p.pose) (λ e. e) reply ≡ cond (on_grid pose) (Ok pose) (Err Unknown) };
+
+    fn try_from(pose: Pose) -> Result<Self, Refusal> {
+        if !pose.is_state() {
+            return Err(Refusal::Unknown);
+        }
+        Ok(Placed { pose })
+    }
+}
+
+impl Placed {
+    // The pose d cells ahead, or none where that is outside.
+    pub(crate) fn ahead(self, d: u8) -> Option<Placed>
+        ensures { option_map (λ p. p.pose) result ≡ ahead self.pose d }
+    {
+        let Pose { x, y, heading } = self.pose;
+        let (x, y) = match heading {
+            Heading::North => (x, y.checked_sub(d)?),
+            Heading::East => (x.checked_add(d)?, y),
+            Heading::South => (x, y.checked_add(d)?),
+            Heading::West => (x.checked_sub(d)?, y),
+        };
+        Placed::try_from(Pose { x, y, heading }).ok()
+    }
+}
