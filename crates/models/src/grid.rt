@@ -1,5 +1,5 @@
 // The grid: a cart on a map of 32 by 32 cells.
-ghost use Rattle.std.specs.Prelude.{◌≡◌, ◌<◌, ◌≤◌, replicate};
+ghost use Rattle.std.specs.Prelude.{◌≡◌, replicate};
 ghost use Rattle.models.specs.Grids.{wall, row_reply, rows_after, reach, single_forward, overrun_forward, forward, command_reply, grid_meaning};
 ghost use Rattle.models.specs.Laws.{grid_lawful};
 
@@ -56,7 +56,7 @@ impl Grid {
         if y >= 32 {
             return Err(Refusal::OutOfRange);
         }
-        self.rows[y as usize] = bits;
+        self.rows[usize::from(y)] = bits;
         Ok(())
     }
 

@@ -1,9 +1,8 @@
 // Poses on the map.
-ghost use Rattle.std.specs.Prelude.{◌≡◌, true, cond, Ok, Err};
+ghost use Rattle.std.specs.Prelude.{◌≡◌, true};
 ghost use Rattle.std.specs.Option.{option_map};
 ghost use Rattle.std.specs.Result.{result_map_both};
-ghost use Rattle.refusals.specs.declared.Refusal.TheVariants.{Unknown};
-ghost use Rattle.models.specs.Poses.{on_grid};
+ghost use Rattle.models.specs.Poses.{on_grid, pose_reply};
 ghost use Rattle.models.specs.Grids.{ahead};
 
 use crate::pose::{Heading, Pose};
@@ -20,7 +19,8 @@ pub(crate) struct Placed {
 impl TryFrom<Pose> for Placed {
     type Error = Refusal;
 
-    ghost try_from_gives = { λ pose reply. result_map_both (λ p. p.pose) (λ e. e) reply ≡ cond (on_grid pose) (Ok pose) (Err Unknown) };
+    ghost try_from_gives = { λ pose reply.
+        result_map_both (λ p. p.pose) (λ e. e) reply ≡ pose_reply pose };
 
     fn try_from(pose: Pose) -> Result<Self, Refusal> {
         if !pose.is_state() {
