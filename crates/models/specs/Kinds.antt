@@ -1,10 +1,16 @@
 -- Kinds of state: which values are states, and their codes. Assumes nothing.
-use Rattle.std.specs.Prelude.{◌≡◌, ℕ, ◌^◌, ◌<◌, Bool, true, cond, Some, None, Option}
+use Rattle.std.specs.Prelude.{◌≡◌, ℕ, ◌^◌, ◌<◌, Bool, true, cond, Some, None, Option, Ok, Err, Result}
+use Rattle.refusals.specs.declared.Refusal.{Refusal}
+use Rattle.refusals.specs.declared.Refusal.TheVariants.{Unknown}
 
 -- a kind of state
 pub record Kind (S : Type 0) : Type 0 where
   -- the value is a state
   pub is : S → Bool
+
+-- a value that is a state, and a refusal of another
+abbrev pub state_reply : {S : Type 0} → Kind S → S → Result S Refusal
+state_reply k s = cond (k.is s) (Ok s) (Err Unknown)
 
 -- a kind of state with codes
 pub record Coding (S : Type 0) : Type 0 where

@@ -1,6 +1,6 @@
 -- A pose that moves on the grid stays on it. Assumes nothing.
 use Rattle.std.specs.Prelude.{◌≡◌, ℕ, ◌+◌, ◌-◌, ◌<◌, Bool, true, cond, ◌&&◌, List, IfSome, Some, None, Option, ◌==◌, nat_lt}
-use Rattle.std.proofs.Common.{arith}
+use Rattle.std.proofs.Common.{arith, rules}
 use Rattle.std.specs.Option.{unwrap_or}
 use Rattle.std.proofs.lemmas.Bool.{cond_both, and_from, and_parts, lt-ltb, ltb-true}
 use Rattle.models.specs.Poses.{on_grid}
@@ -15,14 +15,11 @@ On p = on_grid p ≡ true
 on : (x y : ℕ) → x < 32 → y < 32 → (nat_lt x 32 && nat_lt y 32) ≡ true
 on x y h k = and_from (nat_lt x 32) (nat_lt y 32) (lt-ltb x 32 h) (lt-ltb y 32 k)
 
-found_if : (b : Bool) (q : Pose) → (b ≡ true → On q) → IfSome (cond b (Some q) None) On
-found_if b q h = cond_both b (Some q) None (λ o. IfSome o On) h (λ _. tt)
-
 further_on : (h : Heading) (x y d : ℕ) → x < 32 → y < 32 → IfSome (further h x y d) On
-further_on North x y d p q = found_if _ _ (λ e. on x (y - d) p (omega arith))
-further_on East x y d p q = found_if _ _ (λ e. on (x + d) y (ltb-true (x + d) 32 e) q)
-further_on South x y d p q = found_if _ _ (λ e. on x (y + d) p (ltb-true (y + d) 32 e))
-further_on West x y d p q = found_if _ _ (λ e. on (x - d) y (omega arith) q)
+further_on North x y d p q = search rules
+further_on East x y d p q = search rules
+further_on South x y d p q = search rules
+further_on West x y d p q = search rules
 
 unless_wall_on : (rows : List ℕ) (o : Option Pose) → IfSome o On → IfSome (unless_wall rows o) On
 unless_wall_on rows None h = tt

@@ -1,7 +1,5 @@
 -- Poses of the grid: a cell and a heading. Assumes nothing.
-use Rattle.std.specs.Prelude.{ℕ, ◌+◌, ◌*◌, ◌/◌, ◌%◌, Bool, cond, ◌&&◌, Some, None, Ok, Err, Result, ◌==◌, nat_lt}
-use Rattle.refusals.specs.declared.Refusal.{Refusal}
-use Rattle.refusals.specs.declared.Refusal.TheVariants.{Unknown}
+use Rattle.std.specs.Prelude.{ℕ, ◌+◌, ◌*◌, ◌/◌, ◌%◌, Bool, cond, ◌&&◌, Some, None, ◌==◌, nat_lt}
 use Rattle.models.specs.Kinds.{Kind, Coding}
 use Rattle.models.specs.declared.pose.Heading.{Heading}
 use Rattle.models.specs.declared.pose.Heading.TheVariants.{North, East, South, West}
@@ -33,10 +31,6 @@ pose x y h = record { x = x; y = y; heading = h }
 -- the pose has a cell of the grid
 abbrev pub on_grid : Pose → Bool
 on_grid p = nat_lt p.x 32 && nat_lt p.y 32
-
--- a pose that has a cell of the grid, and a refusal of another
-abbrev pub pose_reply : Pose → Result Pose Refusal
-pose_reply p = cond (on_grid p) (Ok p) (Err Unknown)
 
 -- which poses are states
 abbrev pub pose_kind : Kind Pose

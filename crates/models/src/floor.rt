@@ -22,6 +22,7 @@ impl<M: FilterModel> FilterModel for Floor<M> {
 
     ghost lawful = { λ l. floored_lawful M.State.State.kind (M.Model.meaning l.below) l.least l.small (M.Model.lawful l.below) };
 
+    // These three ask the model below, as in the slip: a trait for that would be longer than they are.
     fn knows_command(&self, command: u8) -> bool {
         self.below.knows_command(command)
     }

@@ -5,7 +5,7 @@ ghost use Rattle.models.specs.Laws.{lift_lawful};
 
 use crate::lift_state::{LiftState, Mode};
 use crate::model::Model as FilterModel;
-use crate::state::{State, State as _};
+use crate::state::{State, ensure_state};
 use refusals::Refusal;
 
 // What a lift can be told to do.
@@ -95,9 +95,7 @@ impl FilterModel for Lift {
     }
 
     fn advance(&self, state: LiftState, command: u8, number: u32) -> Result<LiftState, Refusal> {
-        if !state.is_state() {
-            return Err(Refusal::Unknown);
-        }
+        let state = ensure_state(state)?;
         Ok(match (Command::try_from(command)?, state.mode) {
             (Command::Raise, Mode::Down | Mode::Lowering) => LiftState::begun(Mode::Rising),
             (Command::Lower, Mode::Rising | Mode::Up) => LiftState::begun(Mode::Lowering),
@@ -106,9 +104,7 @@ impl FilterModel for Lift {
     }
 
     fn score(&self, state: LiftState, reading: u8) -> Result<u16, Refusal> {
-        if !state.is_state() {
-            return Err(Refusal::Unknown);
-        }
+        let state = ensure_state(state)?;
         let [rests, lowers, rises] = match state.mode {
             Mode::Down => [90, 9, 1],
             Mode::Rising => [1, 19, 80],

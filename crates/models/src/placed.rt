@@ -2,11 +2,12 @@
 ghost use Rattle.std.specs.Prelude.{◌≡◌, true};
 ghost use Rattle.std.specs.Option.{option_map};
 ghost use Rattle.std.specs.Result.{result_map_both};
-ghost use Rattle.models.specs.Poses.{on_grid, pose_reply};
+ghost use Rattle.models.specs.Kinds.{state_reply};
+ghost use Rattle.models.specs.Poses.{on_grid, pose_kind};
 ghost use Rattle.models.specs.Grids.{ahead};
 
 use crate::pose::{Heading, Pose};
-use crate::state::State as _;
+use crate::state::ensure_state;
 use refusals::Refusal;
 
 // A pose whose cell is on the map.
@@ -20,13 +21,12 @@ impl TryFrom<Pose> for Placed {
     type Error = Refusal;
 
     ghost try_from_gives = { λ pose reply.
-        result_map_both (λ p. p.pose) (λ e. e) reply ≡ pose_reply pose };
+        result_map_both (λ p. p.pose) (λ e. e) reply ≡ state_reply pose_kind pose };
 
     fn try_from(pose: Pose) -> Result<Self, Refusal> {
-        if !pose.is_state() {
-            return Err(Refusal::Unknown);
-        }
-        Ok(Placed { pose })
+        Ok(Placed {
+            pose: ensure_state(pose)?,
+        })
     }
 }
 

@@ -4,7 +4,7 @@ ghost use Rattle.models.specs.Layers.{slipping};
 ghost use Rattle.models.specs.Laws.{slipping_lawful};
 
 use crate::model::Model as FilterModel;
-use crate::state::State;
+use crate::state::{State, ensure_state};
 use refusals::Refusal;
 
 // With a chance of so many in 256, a move leaves the state as it is.
@@ -21,6 +21,7 @@ impl<M: FilterModel> FilterModel for Slip<M> {
 
     ghost lawful = { λ l. slipping_lawful M.State.State.kind (M.Model.meaning l.below) l.chance (M.Model.lawful l.below) };
 
+    // These three ask the model below, as in the floor: a trait for that would be longer than they are.
     fn knows_command(&self, command: u8) -> bool {
         self.below.knows_command(command)
     }
@@ -34,7 +35,8 @@ impl<M: FilterModel> FilterModel for Slip<M> {
     }
 
     fn advance(&self, state: M::State, command: u8, number: u32) -> Result<M::State, Refusal> {
-        if !state.is_state() || !self.knows_command(command) {
+        let state = ensure_state(state)?;
+        if !self.knows_command(command) {
             return Err(Refusal::Unknown);
         }
         if number >> 24 < u32::from(self.chance) {

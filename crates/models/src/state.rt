@@ -1,6 +1,8 @@
 // Kinds of state.
 ghost use Rattle.std.specs.Prelude.{◌≡◌};
-ghost use Rattle.models.specs.Kinds.{Kind, Coding, Exact, code_reply};
+ghost use Rattle.models.specs.Kinds.{Kind, Coding, Exact, state_reply, code_reply};
+
+use refusals::Refusal;
 
 // A kind of state: which of its values are states.
 pub trait State: Copy {
@@ -25,4 +27,11 @@ pub trait Coded: State {
         ensures { result ≡ coding.back n };
 
     ghost exact: { Exact coding };
+}
+
+// The value, if it is a state.
+pub(crate) fn ensure_state<S: State>(value: S) -> Result<S, Refusal>
+    ensures { result ≡ state_reply S.kind value }
+{
+    value.is_state().then_some(value).ok_or(Refusal::Unknown)
 }

@@ -1,55 +1,28 @@
 // Tables of the grid.
-use crate::shown;
 use crate::shown::Shown;
+use crate::tables::{print_backs, print_births, print_codes};
 use models::grid::Grid;
 use models::model::Model;
 use models::pose::{Heading, Pose};
-use models::state::Coded;
+use std::io;
 
 // the last number of a single forward, and the first of an overrun
 const SINGLE: u32 = 3758096383;
 
 const OVERRUN: u32 = 3758096384;
 
-fn advanced(grid: &Grid, p: Pose, command: u8, number: u32) -> Shown {
-    match grid.advance(p, command, number) {
-        Ok(next) => shown::pose(next),
-        Err(refusal) => shown::refused(refusal),
-    }
+fn set_row(rt: &impl Print, grid: &mut Grid, y: u8, bits: u32) -> io::Result<()> {
+    let reply = Shown(grid.set_row(y, bits));
+    println!(rt; "row {y} {bits}: {reply}")
 }
 
-fn scored(grid: &Grid, p: Pose, reading: u8) -> Shown {
-    match grid.score(p, reading) {
-        Ok(score) => Shown::Number(u32::from(score)),
-        Err(refusal) => shown::refused(refusal),
-    }
+fn print_forward(rt: &impl Print, grid: &Grid, p: Pose) -> io::Result<()> {
+    let single = Shown(grid.advance(p, 1, SINGLE));
+    let overrun = Shown(grid.advance(p, 1, OVERRUN));
+    println!(rt; "forward {}: {single} | {overrun}", Shown(p))
 }
 
-fn set_row(rt: &HostRuntime, grid: &mut Grid, y: u8, bits: u32) -> anyhow::Result<()> {
-    let reply = match grid.set_row(y, bits) {
-        Ok(()) => Shown::Done,
-        Err(refusal) => shown::refused(refusal),
-    };
-    println!(rt; "row {y} {bits}: {reply}")?;
-    Ok(())
-}
-
-fn print_forward(
-    rt: &HostRuntime,
-    grid: &Grid,
-    x: u8,
-    y: u8,
-    heading: Heading,
-) -> anyhow::Result<()> {
-    let p = Pose { x, y, heading };
-    let from = shown::pose(p);
-    let single = advanced(grid, p, 1, SINGLE);
-    let overrun = advanced(grid, p, 1, OVERRUN);
-    println!(rt; "forward {from}: {single} | {overrun}")?;
-    Ok(())
-}
-
-fn print_forwards(rt: &HostRuntime, grid: &Grid) -> anyhow::Result<()> {
+fn print_forwards(rt: &impl Print, grid: &Grid) -> io::Result<()> {
     for (x, y, heading) in [
         // both cells ahead are free
         (16, 16, Heading::North),
@@ -94,24 +67,21 @@ fn print_forwards(rt: &HostRuntime, grid: &Grid) -> anyhow::Result<()> {
         // the pose itself is in a wall
         (12, 10, Heading::East),
     ] {
-        print_forward(rt, grid, x, y, heading)?;
+        print_forward(rt, grid, Pose { x, y, heading })?;
     }
     Ok(())
 }
 
-fn print_turn(rt: &HostRuntime, grid: &Grid, x: u8, y: u8, heading: Heading) -> anyhow::Result<()> {
-    let p = Pose { x, y, heading };
-    let from = shown::pose(p);
-    let stay = advanced(grid, p, 0, OVERRUN);
-    let right = advanced(grid, p, 2, OVERRUN);
-    let left = advanced(grid, p, 3, OVERRUN);
-    let unknown = advanced(grid, p, 4, OVERRUN);
-    let last = advanced(grid, p, 255, OVERRUN);
-    println!(rt; "turn {from}: {stay} | {right} | {left} | {unknown} | {last}")?;
-    Ok(())
+fn print_turn(rt: &impl Print, grid: &Grid, p: Pose) -> io::Result<()> {
+    let stay = Shown(grid.advance(p, 0, OVERRUN));
+    let right = Shown(grid.advance(p, 2, OVERRUN));
+    let left = Shown(grid.advance(p, 3, OVERRUN));
+    let unknown = Shown(grid.advance(p, 4, OVERRUN));
+    let last = Shown(grid.advance(p, 255, OVERRUN));
+    println!(rt; "turn {}: {stay} | {right} | {left} | {unknown} | {last}", Shown(p))
 }
 
-fn print_turns(rt: &HostRuntime, grid: &Grid) -> anyhow::Result<()> {
+fn print_turns(rt: &impl Print, grid: &Grid) -> io::Result<()> {
     for (x, y, heading) in [
         (3, 4, Heading::North),
         (3, 4, Heading::East),
@@ -123,30 +93,20 @@ fn print_turns(rt: &HostRuntime, grid: &Grid) -> anyhow::Result<()> {
         (0, 32, Heading::North),
         (255, 255, Heading::West),
     ] {
-        print_turn(rt, grid, x, y, heading)?;
+        print_turn(rt, grid, Pose { x, y, heading })?;
     }
     Ok(())
 }
 
-fn print_scores_at(
-    rt: &HostRuntime,
-    grid: &Grid,
-    x: u8,
-    y: u8,
-    heading: Heading,
-) -> anyhow::Result<()> {
-    let p = Pose { x, y, heading };
-    let from = shown::pose(p);
-    print!(rt; "scores {from}:")?;
+fn print_scores_at(rt: &impl Print, grid: &Grid, p: Pose) -> io::Result<()> {
+    print!(rt; "scores {}:", Shown(p))?;
     for reading in [0, 1, 2, 3, 4, 5, 6, 27, 28, 29, 30, 31, 32, 255] {
-        let score = scored(grid, p, reading);
-        print!(rt; " {score}")?;
+        print!(rt; " {}", Shown(grid.score(p, reading)))?;
     }
-    println!(rt; "")?;
-    Ok(())
+    println!(rt; "")
 }
 
-fn print_scores(rt: &HostRuntime, grid: &Grid) -> anyhow::Result<()> {
+fn print_scores(rt: &impl Print, grid: &Grid) -> io::Result<()> {
     for (x, y, heading) in [
         (10, 10, Heading::North),
         (10, 10, Heading::East),
@@ -168,23 +128,13 @@ fn print_scores(rt: &HostRuntime, grid: &Grid) -> anyhow::Result<()> {
         (32, 0, Heading::North),
         (0, 32, Heading::North),
     ] {
-        print_scores_at(rt, grid, x, y, heading)?;
+        print_scores_at(rt, grid, Pose { x, y, heading })?;
     }
     Ok(())
 }
 
-fn print_births(rt: &HostRuntime, grid: &Grid) -> anyhow::Result<()> {
-    for number in [
-        0, 1048575, 1048576, 4194303, 4194304, 134217727, 134217728, 2147483648, 4294967295,
-    ] {
-        let born = shown::pose(grid.birth(number));
-        println!(rt; "birth {number}: {born}")?;
-    }
-    Ok(())
-}
-
-fn print_codes(rt: &HostRuntime) -> anyhow::Result<()> {
-    for (x, y, heading) in [
+fn poses() -> [Pose; 9] {
+    [
         (0, 0, Heading::North),
         (31, 0, Heading::North),
         (0, 31, Heading::North),
@@ -194,27 +144,11 @@ fn print_codes(rt: &HostRuntime) -> anyhow::Result<()> {
         (31, 31, Heading::West),
         (32, 0, Heading::North),
         (0, 32, Heading::North),
-    ] {
-        let p = Pose { x, y, heading };
-        let from = shown::pose(p);
-        let code = shown::code(p.code());
-        println!(rt; "code {from}: {code}")?;
-    }
-    Ok(())
+    ]
+    .map(|(x, y, heading)| Pose { x, y, heading })
 }
 
-fn print_backs(rt: &HostRuntime) -> anyhow::Result<()> {
-    for n in [0, 31, 32, 1023, 1024, 3137, 4095, 4096, 4294967295] {
-        let back = match Pose::from_code(n) {
-            Some(p) => shown::pose(p),
-            None => Shown::None,
-        };
-        println!(rt; "back {n}: {back}")?;
-    }
-    Ok(())
-}
-
-pub(crate) fn print_all(rt: &HostRuntime) -> anyhow::Result<()> {
+pub(crate) fn print_all(rt: &impl Print) -> io::Result<()> {
     let mut grid = Grid::empty();
     // walls at both ends of row 0, around 10 10, and two in a row next to 20 20 and 25 26
     for (y, bits) in [
@@ -235,7 +169,16 @@ pub(crate) fn print_all(rt: &HostRuntime) -> anyhow::Result<()> {
     print_forwards(rt, &grid)?;
     print_turns(rt, &grid)?;
     print_scores(rt, &grid)?;
-    print_births(rt, &grid)?;
-    print_codes(rt)?;
-    print_backs(rt)
+    print_births(
+        rt,
+        &grid,
+        &[
+            0, 1048575, 1048576, 4194303, 4194304, 134217727, 134217728, 2147483648, 4294967295,
+        ],
+    )?;
+    print_codes(rt, &poses())?;
+    print_backs::<Pose>(
+        rt,
+        &[0, 31, 32, 1023, 1024, 3137, 4095, 4096, 4294967295],
+    )
 }

@@ -5,13 +5,11 @@ mod grid_tables;
 mod layer_tables;
 mod lift_tables;
 mod shown;
-
-fn run(rt: &HostRuntime) -> anyhow::Result<()> {
-    grid_tables::print_all(rt)?;
-    lift_tables::print_all(rt)?;
-    layer_tables::print_all(rt)
-}
+mod tables;
 
 fn main(rt: HostRuntime) -> anyhow::Result<()> {
-    run(&rt)
+    grid_tables::print_all(&rt)?;
+    lift_tables::print_all(&rt)?;
+    layer_tables::print_all(&rt)?;
+    Ok(())
 }
