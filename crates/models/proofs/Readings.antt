@@ -1,11 +1,10 @@
 -- The expected reading counts the free cells ahead. Assumes nothing.
-use Rattle.std.proofs.Common.{◌≡◌, ℕ, ◌+◌, ◌-◌, ◌<◌, ◌≤◌, true, false, ltb, leb, List, is_some, None, ap, ◌∙◌, ⊎_elim, arith}
+use Rattle.std.proofs.Common.{◌≡◌, ℕ, ◌+◌, ◌-◌, ◌<◌, ◌≤◌, true, false, List, is_some, None, ap, arith, rules}
 use Rattle.std.specs.List.{range_with_len}
 use Rattle.std.proofs.lemmas.List.FromFn.{get_or-range_with_len}
 use Rattle.std.proofs.lemmas.List.Sums.{prefix_len-le-length, prefix_len_passes, prefix_len_stops}
-use Rattle.std.proofs.lemmas.Bool.{and_parts, ltb-true, cond-false, le-ltb, lt-leb, cases_lt}
 use Rattle.models.specs.Poses.{on_grid}
-use Rattle.models.specs.Grids.{further, unless_wall, free_at, expected_reading}
+use Rattle.models.specs.Grids.{ahead, further, unless_wall, free_at, expected_reading}
 use Rattle.models.specs.Readings.{FreeAhead}
 use Rattle.models.specs.declared.pose.Heading.{Heading}
 use Rattle.models.specs.declared.pose.Heading.TheVariants.{North, East, South, West}
@@ -13,24 +12,15 @@ use Rattle.models.specs.declared.pose.Pose.{Pose}
 
 -- nothing is inside 32 cells ahead
 outside : (h : Heading) (x y : ℕ) → x < 32 → y < 32 → further h x y 32 ≡ None
-outside North x y p q = cond-false (leb 32 y) _ None (lt-leb 32 y q)
-outside East x y p q = cond-false (ltb (x + 32) 32) _ None (le-ltb (x + 32) 32 (omega arith))
-outside South x y p q = cond-false (ltb (y + 32) 32) _ None (le-ltb (y + 32) 32 (omega arith))
-outside West x y p q = cond-false (leb 32 x) _ None (lt-leb 32 x p)
+outside North x y p q = search rules
+outside East x y p q = search rules
+outside South x y p q = search rules
+outside West x y p q = search rules
 
 not_free_at_32 : (rows : List ℕ) (p : Pose) → on_grid p ≡ true → free_at rows p 32 ≡ false
 not_free_at_32 rows p h =
-    let e = and_parts (ltb p.x 32) (ltb p.y 32) h in
-    ap (λ o. is_some (unless_wall rows o)) (outside p.heading p.x p.y (ltb-true p.x 32 e.0) (ltb-true p.y 32 e.1))
-
-blocked_after : (rows : List ℕ) (p : Pose) → on_grid p ≡ true → (n : ℕ) → (n < 31 → free_at rows p (1 + n) ≡ false) → n ≤ 31 → free_at rows p (n + 1) ≡ false
-blocked_after rows p h n below le = ⊎_elim inside edge (cases_lt n 31)
-  where
-    inside : n < 31 → free_at rows p (n + 1) ≡ false
-    inside l = ap (free_at rows p) (omega arith) ∙ below l
-
-    edge : 31 ≤ n → free_at rows p (n + 1) ≡ false
-    edge l = ap (free_at rows p) (omega arith) ∙ not_free_at_32 rows p h
+    let e : ahead p 32 ≡ None = search (rules, outside) in
+    ap (λ o. is_some (unless_wall rows o)) e
 
 reading_most : (rows : List ℕ) (p : Pose) → expected_reading rows p ≤ 31
 unfolding expected_reading
@@ -50,8 +40,11 @@ reading_fails_after rows p h =
 pub free_ahead : (rows : List ℕ) (p : Pose) → on_grid p ≡ true → FreeAhead rows p (expected_reading rows p)
 free_ahead rows p h =
     let most = reading_most rows p in
+    let passes = reading_passes rows p in
+    let fails = reading_fails_after rows p in
+    let edge = not_free_at_32 rows p h in
     record {
-      free = λ d pos le. ap (free_at rows p) (omega arith) ∙ reading_passes rows p (d - 1) (omega arith);
-      blocked = blocked_after rows p h (expected_reading rows p) (reading_fails_after rows p) most;
+      free = λ d pos le. grind (arith, passes (d - 1));
+      blocked = grind arith;
       known = omega arith;
     }

@@ -3,6 +3,7 @@ ghost use Rattle.models.specs.Examples.{Examples};
 ghost use Rattle.models.specs.Readings.{ExpectedIsWhatIsFreeAhead};
 
 // The worked examples hold of the definitions that the contracts cite.
+#[tactic(auto, unfolding(crate::specs::Grids::expected_reading))]
 pub fn examples_hold() -> bool
     ensures { Examples }
 {
