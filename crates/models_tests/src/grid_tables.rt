@@ -78,7 +78,10 @@ fn print_turn(rt: &impl Print, grid: &Grid, p: Pose) -> io::Result<()> {
     let left = Shown(grid.advance(p, 3, OVERRUN));
     let unknown = Shown(grid.advance(p, 4, OVERRUN));
     let last = Shown(grid.advance(p, 255, OVERRUN));
-    println!(rt; "turn {}: {stay} | {right} | {left} | {unknown} | {last}", Shown(p))
+    println!(rt;
+        "turn {}: {stay} | {right} | {left} | {unknown} | {last}",
+        Shown(p)
+    )
 }
 
 fn print_turns(rt: &impl Print, grid: &Grid) -> io::Result<()> {
@@ -177,8 +180,5 @@ pub(crate) fn print_all(rt: &impl Print) -> io::Result<()> {
         ],
     )?;
     print_codes(rt, &poses())?;
-    print_backs::<Pose>(
-        rt,
-        &[0, 31, 32, 1023, 1024, 3137, 4095, 4096, 4294967295],
-    )
+    print_backs::<Pose>(rt, &[0, 31, 32, 1023, 1024, 3137, 4095, 4096, 4294967295])
 }

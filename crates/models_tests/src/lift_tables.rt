@@ -36,7 +36,10 @@ fn print_moves(rt: &impl Print) -> io::Result<()> {
 fn print_scores_of(rt: &impl Print, mode: Mode) -> io::Result<()> {
     print!(rt; "scores {}:", mode as u8)?;
     for (counter, reading) in [(99, 0), (99, 1), (99, 2), (99, 3), (100, 0)] {
-        print!(rt; " {}", Shown(Lift.score(LiftState { mode, counter }, reading)))?;
+        print!(rt;
+            " {}",
+            Shown(Lift.score(LiftState { mode, counter }, reading))
+        )?;
     }
     println!(rt; "")
 }

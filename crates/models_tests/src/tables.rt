@@ -4,11 +4,7 @@ use models::model::Model;
 use models::state::Coded;
 use std::io;
 
-pub(crate) fn print_births<M: Model>(
-    rt: &impl Print,
-    model: &M,
-    numbers: &[u32],
-) -> io::Result<()>
+pub(crate) fn print_births<M: Model>(rt: &impl Print, model: &M, numbers: &[u32]) -> io::Result<()>
 where
     M::State: Show,
 {
