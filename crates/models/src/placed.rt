@@ -35,13 +35,14 @@ impl Placed {
     pub(crate) fn ahead(self, d: u8) -> Option<Placed>
         ensures { option_map (λ p. p.pose) result ≡ ahead self.pose d }
     {
-        let Pose { x, y, heading } = self.pose;
-        let (x, y) = match heading {
-            Heading::North => (x, y.checked_sub(d)?),
-            Heading::East => (x.checked_add(d)?, y),
-            Heading::South => (x, y.checked_add(d)?),
-            Heading::West => (x.checked_sub(d)?, y),
+        let p = self.pose;
+        let pose = match p.heading {
+            Heading::North if d <= p.y => Pose { y: p.y - d, ..p },
+            Heading::East if d < 32 - p.x => Pose { x: p.x + d, ..p },
+            Heading::South if d < 32 - p.y => Pose { y: p.y + d, ..p },
+            Heading::West if d <= p.x => Pose { x: p.x - d, ..p },
+            _ => return None,
         };
-        Placed::try_from(Pose { x, y, heading }).ok()
+        Some(Placed { pose })
     }
 }

@@ -10,6 +10,8 @@ impl Grid {
     pub(crate) fn expected_reading(&self, p: Placed) -> u8
         ensures { result ≡ expected_reading self.now.rows p.pose }
     {
-        (1..32).take_while(|d| self.reach(p, *d).is_some()).count() as u8
+        (0..31)
+            .find(|d| self.reach(p, d + 1).is_none())
+            .unwrap_or(31)
     }
 }
