@@ -1,18 +1,24 @@
 -- Cutting at a separator, step by step. Assumes nothing.
-use Rattle.std.proofs.Common.{◌≡◌, ℕ, suc, ◌+◌, ◌<◌, true, false, cond, eqb, List, [], ◌∷◌, ◌++◌, length, get_or, take, drop, Some, None, sym, refl, ap, ◌∙◌, append_assoc, arith, ne_eqb}
-use Rattle.std.proofs.lemmas.List.{drop_more, take_more}
+use Rattle.std.proofs.Common.{◌≡◌, ◌≢◌, ℕ, zero, suc, ◌+◌, ◌<◌, true, false, cond, eqb, List, [], ◌∷◌, length, get_or, take, drop, Some, None, unwrap_or, Option, Bor, sym, refl, ap, ◌∙◌, add-one, arith, eq-eqb, ne_eqb}
+use Rattle.std.specs.Option.{option_map}
 use Rattle.fields.specs.Cuts.{front, after, onto, fields, lines, fields_in, lines_in}
 
-pub front_on : (c : ℕ) (bs : List ℕ) (i : ℕ) → i < length bs → (get_or bs i 0 ≡ c → ⊥) → take (i + 1) bs ++ front c (drop (i + 1) bs) ≡ take i bs ++ front c (drop i bs)
-front_on c bs i lt other_byte =
-    let other = ne_eqb (get_or bs i 0) c other_byte in
-    let d : front c (drop i bs) ≡ get_or bs i 0 ∷ front c (drop (i + 1) bs) = ap (front c) (drop_more bs i 0 lt) ∙ ap (λ t. cond t [] (get_or bs i 0 ∷ front c (drop (i + 1) bs))) other in
-    ap (λ l. l ++ front c (drop (i + 1) bs)) (take_more bs i 0 lt) ∙ append_assoc (take i bs) (get_or bs i 0 ∷ []) (front c (drop (i + 1) bs)) ∙ ap (λ l. take i bs ++ l) (sym d)
+-- the first c is at i
+pub cut_at : (c : ℕ) (bs : List ℕ) (i : ℕ) → i < length bs → get_or bs i 0 ≡ c → ((k : ℕ) → k < i → get_or bs k 0 ≢ c) → (front c bs ≡ take i bs) × (after c bs ≡ Some (drop (i + 1) bs))
+cut_at c [] i inside same before = absurd (omega arith)
+cut_at c (b ∷ bs) zero inside same before = let e = eq-eqb b c same in (rw e refl, rw e refl)
+cut_at c (b ∷ bs) (suc i) inside same before =
+    let e = ne_eqb b c (before 0 (omega arith)) in
+    let rest = cut_at c bs i (omega arith) same (λ k h. before (suc k) (omega arith)) in
+    (rw e (ap (λ l. b ∷ l) rest.0), rw (e, add-one) (rw add-one at rest.1))
 
-pub after_on : (c : ℕ) (bs : List ℕ) (i : ℕ) → i < length bs → (get_or bs i 0 ≡ c → ⊥) → after c (drop (i + 1) bs) ≡ after c (drop i bs)
-after_on c bs i lt other_byte =
-    let other = ne_eqb (get_or bs i 0) c other_byte in
-    sym (ap (after c) (drop_more bs i 0 lt) ∙ ap (λ t. cond t (Some (drop (i + 1) bs)) (after c (drop (i + 1) bs))) other)
+-- there is no c
+pub cut_nowhere : (c : ℕ) (bs : List ℕ) → ((k : ℕ) → k < length bs → get_or bs k 0 ≢ c) → (front c bs ≡ bs) × (after c bs ≡ None)
+cut_nowhere c [] none = (refl, refl)
+cut_nowhere c (b ∷ bs) none =
+    let e = ne_eqb b c (none 0 (omega arith)) in
+    let rest = cut_nowhere c bs (λ k h. none (suc k) (omega arith)) in
+    (rw e (ap (λ l. b ∷ l) rest.0), rw e rest.1)
 
 -- the first field and the others
 pub fields_cut : (bs : List ℕ) → fields bs ≡ front 44 bs ∷ fields_in (after 44 bs)
@@ -28,10 +34,6 @@ lines_cut b (x ∷ xs) =
     let rest = lines_cut x xs in
     elim (eqb b 10) as (λ t. cond t ([] ∷ lines bs) (onto b (lines bs)) ≡ cond t [] (b ∷ front 10 bs) ∷ lines_in (cond t (Some bs) (after 10 bs))) [ true ↦ refl | false ↦ ap (onto b) rest ]
 
-pub lines_none : (bs : List ℕ) → length bs ≡ 0 → lines bs ≡ []
-lines_none [] e = refl
-lines_none (b ∷ bs) e = absurd (omega arith)
-
 pub after_shorter : (c : ℕ) (bs xs : List ℕ) → after c bs ≡ Some xs → length xs < length bs
 after_shorter c [] xs e = let z : ◌≡◌ {A = ℕ} 0 1 = cc in absurd (omega arith)
 after_shorter c (b ∷ bs) xs e =
@@ -41,10 +43,16 @@ after_shorter c (b ∷ bs) xs e =
       | false ↦ λ (f : after c bs ≡ Some xs). omega (arith, rest f)
     ] e
 
-pub lines_more : (bs xs : List ℕ) → 0 < length bs → after 10 bs ≡ Some xs → lines bs ≡ front 10 bs ∷ lines xs
-lines_more [] xs some e = absurd (omega arith)
-lines_more (b ∷ bs) xs some e = lines_cut b bs ∙ ap (λ o. front 10 (b ∷ bs) ∷ lines_in o) e
+pub lines_none : (bs : List ℕ) → length bs ≡ 0 → lines bs ≡ []
+lines_none [] e = refl
+lines_none (b ∷ bs) e = absurd (omega arith)
 
-pub lines_last : (bs : List ℕ) → 0 < length bs → after 10 bs ≡ None → lines bs ≡ front 10 bs ∷ []
-lines_last [] some e = absurd (omega arith)
-lines_last (b ∷ bs) some e = lines_cut b bs ∙ ap (λ o. front 10 (b ∷ bs) ∷ lines_in o) e
+-- the first line, and the rest or else nothing
+pub next_of : (bs : List ℕ) (rest : Option (Bor (List ℕ))) (nothing more : Bor (List ℕ)) → 0 < length bs → option_map (λ x. x.now) rest ≡ after 10 bs → nothing.now ≡ [] → more ≡ unwrap_or rest nothing → (lines bs ≡ front 10 bs ∷ lines more.now) × (length more.now < length bs)
+next_of [] rest nothing more some e empty or = absurd (omega arith)
+next_of (b ∷ bs) None nothing more some e empty or =
+    let last : more.now ≡ [] = ap (λ x. x.now) or ∙ empty in
+    (lines_cut b bs ∙ ap (λ o. front 10 (b ∷ bs) ∷ lines_in o) (sym e) ∙ ap (λ l. front 10 (b ∷ bs) ∷ lines l) (sym last), omega (arith, ap length last))
+next_of (b ∷ bs) (Some next) nothing more some e empty or =
+    let same : next.now ≡ more.now = ap (λ x. x.now) (sym or) in
+    (lines_cut b bs ∙ ap (λ o. front 10 (b ∷ bs) ∷ lines_in o) (sym e) ∙ ap (λ l. front 10 (b ∷ bs) ∷ lines l) same, after_shorter 10 (b ∷ bs) more.now (sym e ∙ ap (λ l. Some l) same))

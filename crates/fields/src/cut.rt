@@ -8,12 +8,10 @@ pub fn cut(bytes: &[u8], separator: u8) -> (&[u8], Option<&[u8]>)
     ensures front { result.0.now ≡ front separator bytes.now }
     ensures rest { option_map (λ x. x.now) result.1 ≡ after separator bytes.now }
 {
-    for (i, byte) in bytes.iter().enumerate() {
-        if *byte == separator {
-            return (&bytes[0..i], Some(&bytes[i + 1..]));
-        }
+    match bytes.iter().position(|byte| *byte == separator) {
+        Some(i) => (&bytes[..i], Some(&bytes[i + 1..])),
+        None => (bytes, None),
     }
-    (bytes, None)
 }
 
 // The first line, without its line feed, and what follows it; none where nothing is left.
@@ -24,8 +22,5 @@ pub fn next_line(text: &[u8]) -> Option<(&[u8], &[u8])>
         return None;
     }
     let (line, rest) = cut(text, b'\n');
-    match rest {
-        Some(more) => Some((line, more)),
-        None => Some((line, &[])),
-    }
+    Some((line, rest.unwrap_or(&[])))
 }

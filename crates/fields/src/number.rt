@@ -8,29 +8,23 @@ use crate::fault::FieldFault;
 fn all_digits(bytes: &[u8]) -> bool
     ensures { result ≡ all_ascii_digits bytes.now }
 {
-    for byte in bytes {
-        if !byte.is_ascii_digit() {
-            return false;
-        }
-    }
-    true
+    bytes.iter().all(u8::is_ascii_digit)
 }
 
 // The number that the digits stand for, or none where it is above the limit.
+#[tactic(auto, using(crate::proofs::Digits::step))]
 fn number_within(digits: &[u8], limit: u32) -> Option<u32>
     requires { all_ascii_digits digits.now ≡ true }
     ensures { result ≡ within limit digits.now }
 {
+    // A `for`: the closure of a `try_fold` would hold the same `?` in more words.
     let mut number: u32 = 0;
-    for byte in digits {
-        let digit = *byte - b'0';
-        let next = u64::from(number) * 10 + u64::from(digit);
-        if next > u64::from(limit) {
-            return None;
-        }
-        number = next as u32;
+    for digit in digits {
+        number = number
+            .checked_mul(10)?
+            .checked_add(u32::from(*digit - b'0'))?;
     }
-    Some(number)
+    (number <= limit).then_some(number)
 }
 
 // The number in a field; `field` says which field of its line it is.
@@ -45,8 +39,5 @@ pub fn read_field(bytes: &[u8], field: usize, limit: u32) -> Result<u32, FieldFa
     if !all_digits(bytes) {
         return Err(FieldFault::NotDigit { field });
     }
-    match number_within(bytes, limit) {
-        Some(number) => Ok(number),
-        None => Err(FieldFault::AboveLimit { field }),
-    }
+    number_within(bytes, limit).ok_or(FieldFault::AboveLimit { field })
 }

@@ -1,13 +1,8 @@
-use Rattle.std.proofs.Common.{rules}
-use Rattle.std.proofs.lemmas.List.{at_drop_more, at_drop_all}
+use Rattle.std.proofs.Common.{refl, rules}
+use Rattle.std.specs.Char.{is_ascii_digit}
 use Rattle.std.specs.Str.{all_ascii_digits}
+use Rattle.std.proofs.lemmas.List.Recursion.{and_is}
 use Rattle.fields.proofs.number.all_digits.Goals as goal
 
-pub returns-then-not-is_ascii_digit : goal.returns-then-not-is_ascii_digit
-returns-then-not-is_ascii_digit c = search (rules, at_drop_more all_ascii_digits)
-
-pub loop-byte-preserved : goal.loop-byte-preserved
-loop-byte-preserved c = search (rules, at_drop_more all_ascii_digits)
-
 pub returns : goal.returns
-returns c = search (rules, at_drop_all all_ascii_digits)
+returns c = and_is all_ascii_digits is_ascii_digit refl (λ _ _. refl) c.args.bytes.now 0 c.all.result (search rules) (search rules)

@@ -1,10 +1,7 @@
-use Rattle.std.proofs.Common.{◌≡◌, ◌≤◌, true, drop}
-use Rattle.std.specs.Str.Parse.{digits_value_after}
-use Rattle.std.specs.Str.{all_ascii_digits}
+use Rattle.std.proofs.Common.{◌≡◌, take}
+use Rattle.std.specs.Str.Parse.{digits_value}
 use Rattle.fields.proofs.number.number_within.Given as goal
 
-abbrev pub invariant-loop-byte : goal.invariant-loop-byte
-invariant-loop-byte l =
-    (digits_value_after 10 l.number (drop l.byte-index l.digits) ≡ digits_value_after 10 0 l.digits)
-    × (all_ascii_digits (drop l.byte-index l.digits) ≡ true)
-    × (l.number ≤ l.limit)
+-- the number that the digits so far stand for
+abbrev pub invariant-loop-digit : goal.invariant-loop-digit
+invariant-loop-digit l = l.number ≡ digits_value 10 (take l.digit-index l.digits)
