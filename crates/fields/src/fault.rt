@@ -29,9 +29,9 @@ impl FieldFault {
         ensures { result ≡ place_of self }
     {
         match self {
-            FieldFault::Empty { field } => field,
-            FieldFault::NotDigit { field } => field,
-            FieldFault::AboveLimit { field } => field,
+            FieldFault::Empty { field }
+            | FieldFault::NotDigit { field }
+            | FieldFault::AboveLimit { field } => field,
         }
     }
 }

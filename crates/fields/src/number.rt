@@ -19,10 +19,9 @@ fn number_within(digits: &[u8], limit: u32) -> Option<u32>
 {
     // A `for`: the closure of a `try_fold` would hold the same `?` in more words.
     let mut number: u32 = 0;
-    for digit in digits {
-        number = number
-            .checked_mul(10)?
-            .checked_add(u32::from(*digit - b'0'))?;
+    for byte in digits {
+        let digit = u32::from(*byte - b'0');
+        number = number.checked_mul(10)?.checked_add(digit)?;
     }
     (number <= limit).then_some(number)
 }
