@@ -3,4 +3,3 @@ pub mod Digits
 pub mod Exact
 pub mod Joining
 pub mod Listing
-pub mod Writing

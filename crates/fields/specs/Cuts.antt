@@ -1,5 +1,6 @@
 -- Bytes cut at a separator. Assumes nothing.
 use Rattle.std.specs.Prelude.{ℕ, cond, List, [], ◌∷◌, Some, None, Option, ◌==◌}
+use Rattle.std.specs.List.{onto_first}
 
 -- what stands before the first c
 abbrev pub front : ℕ → List ℕ → List ℕ
@@ -11,15 +12,10 @@ abbrev pub after : ℕ → List ℕ → Option (List ℕ)
 after c [] = None
 after c (b ∷ bs) = cond (b == c) (Some bs) (after c bs)
 
--- b put before the first piece
-abbrev pub onto : ℕ → List (List ℕ) → List (List ℕ)
-onto b [] = (b ∷ []) ∷ []
-onto b (p ∷ ps) = (b ∷ p) ∷ ps
-
 -- the pieces between the bytes c; `end` are those of no bytes
 abbrev pub pieces : List (List ℕ) → ℕ → List ℕ → List (List ℕ)
 pieces end c [] = end
-pieces end c (b ∷ bs) = cond (b == c) ([] ∷ pieces end c bs) (onto b (pieces end c bs))
+pieces end c (b ∷ bs) = cond (b == c) ([] ∷ pieces end c bs) (onto_first b (pieces end c bs))
 
 -- a line has one field more than commas
 abbrev pub fields : List ℕ → List (List ℕ)

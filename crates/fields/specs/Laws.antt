@@ -1,14 +1,12 @@
 -- What lines and fields are, with no word of how they are found. Assumes nothing.
 use Rattle.std.specs.Prelude.{◌≡◌, ℕ, ◌<◌, ◌⊎◌, List, [], ◌∷◌, ◌++◌, length, Ok, ◌≢◌}
-use Rattle.std.specs.List.{AllByRecursion, flat_map}
+use Rattle.std.specs.List.{AllByRecursion, flat_map, join_with_byte}
 use Rattle.fields.specs.Cuts.{fields, lines}
 use Rattle.fields.specs.Lists.{numbers_of, Numerals}
 
 -- pieces joined by c
 abbrev pub join_by : ℕ → List (List ℕ) → List ℕ
-join_by c [] = []
-join_by c (p ∷ []) = p
-join_by c (p ∷ q ∷ ps) = p ++ (c ∷ join_by c (q ∷ ps))
+join_by c ps = join_with_byte c ps
 
 -- pieces with c after each
 abbrev pub end_by : ℕ → List (List ℕ) → List ℕ

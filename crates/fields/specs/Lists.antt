@@ -27,5 +27,5 @@ Numerals limit (f ∷ fs) (n ∷ ns) = Numeral limit f n × Numerals limit fs ns
 -- r is what is to be read, unless memory was wanting
 abbrev pub Reads : Result (Vec ℕ Global) ListFault → Result (List ℕ) FieldFault → Type 0
 Reads (Ok v) whole = whole ≡ Ok (vec_items v)
-Reads (Err Memory) whole = Unit {0}
+Reads (Err (Memory e)) whole = Unit {0}
 Reads (Err (Field f)) whole = whole ≡ Err f

@@ -1,17 +1,16 @@
 // The numbers in all fields of a line.
-ghost use Rattle.std.specs.Prelude.{◌≡◌};
+ghost use Rattle.std.specs.Prelude.{◌≡◌, alloc_error};
 ghost use Rattle.fields.specs.declared.list.ListFault.TheVariants.{Memory, Field};
 ghost use Rattle.fields.specs.Lists.{Reads, numbers_of};
 ghost use Rattle.fields.specs.Cuts.{fields};
 
-use crate::cut::cut;
 use crate::fault::FieldFault;
 use crate::number::read_field;
-use std::alloc::{AllocFailed, Global};
+use std::alloc::{AllocError, AllocFailed, Global};
 
 #[derive(Clone, Copy, PartialEq, Eq, Debug)]
 pub enum ListFault {
-    Memory,
+    Memory(AllocError),
     Field(FieldFault),
 }
 
@@ -24,10 +23,10 @@ impl From<FieldFault> for ListFault {
 }
 
 impl<T: Drop> From<AllocFailed<T>> for ListFault {
-    ghost from_gives = { λ _ r. r ≡ Memory };
+    ghost from_gives = { λ _ r. r ≡ Memory alloc_error };
 
-    fn from(_full: AllocFailed<T>) -> ListFault {
-        ListFault::Memory
+    fn from(full: AllocFailed<T>) -> ListFault {
+        ListFault::Memory(full.into())
     }
 }
 
@@ -36,14 +35,9 @@ pub fn read_numbers(heap: Global, line: &[u8], limit: u16) -> Result<Vec<u16>, L
     ensures { Reads result (numbers_of 1 limit (fields line.now)) }
 {
     let mut numbers = Vec::new(heap);
-    let mut rest = line;
-    loop {
-        let (field, more) = cut(rest, b',');
+    for field in line.split(|byte| *byte == b',') {
         let number = read_field(field, numbers.len() + 1, u32::from(limit))?;
         numbers.push(number as u16)?;
-        match more {
-            Some(next) => rest = next,
-            None => return Ok(numbers),
-        }
     }
+    Ok(numbers)
 }

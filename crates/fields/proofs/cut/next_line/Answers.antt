@@ -1,9 +1,6 @@
 use Rattle.std.proofs.Common.{refl, rules}
-use Rattle.fields.proofs.Cutting.{lines_none, next_of}
+use Rattle.fields.proofs.Cutting.{next_of}
 use Rattle.fields.proofs.cut.next_line.Goals as goal
-
-pub returns-then-is_empty : goal.returns-then-is_empty
-returns-then-is_empty c = search (rules, lines_none)
 
 pub returns : goal.returns
 returns c =
