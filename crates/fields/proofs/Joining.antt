@@ -28,16 +28,16 @@ lacks_onto : (c b : ℕ) (ps : List (List ℕ)) → (b ≡ c → ⊥) → AllByR
 lacks_onto c b [] ne l = ((ne, tt), tt)
 lacks_onto c b (p ∷ ps) ne l = ((ne, l.0), l.1)
 
-fields_lack : (bs : List ℕ) → AllByRecursion (Lacks 44) (fields bs)
-fields_lack [] = (tt, tt)
-fields_lack (b ∷ bs) = go (eqb b 44) refl (fields_lack bs)
+pieces_lack : (end : List (List ℕ)) (c : ℕ) (bs : List ℕ) → AllByRecursion (Lacks c) end → AllByRecursion (Lacks c) (pieces end c bs)
+pieces_lack end c [] l = l
+pieces_lack end c (b ∷ bs) l = go (eqb b c) refl (pieces_lack end c bs l)
   where
-    go : (t : Bool) → eqb b 44 ≡ t → AllByRecursion (Lacks 44) (fields bs) → AllByRecursion (Lacks 44) (cond t ([] ∷ fields bs) (onto_first b (fields bs)))
+    go : (t : Bool) → eqb b c ≡ t → AllByRecursion (Lacks c) (pieces end c bs) → AllByRecursion (Lacks c) (cond t ([] ∷ pieces end c bs) (onto_first b (pieces end c bs)))
     go true e rest = (tt, rest)
-    go false e rest = lacks_onto 44 b (fields bs) (eqb-false b 44 e) rest
+    go false e rest = lacks_onto c b (pieces end c bs) (eqb-false b c e) rest
 
 pub fields_join : FieldsJoin
-fields_join bs = (ap (join_by 44) (sym (split_is_fields bs)) ∙ join_with_byte-slice_split 44 bs, fields_lack bs)
+fields_join bs = (ap (join_by 44) (sym (split_is_fields bs)) ∙ join_with_byte-slice_split 44 bs, pieces_lack ([] ∷ []) 44 bs (tt, tt))
 
 pub fields_alone : FieldsAlone
 fields_alone p [] l = last_field p l.0
@@ -45,36 +45,33 @@ fields_alone p (q ∷ ps) l = next_piece ([] ∷ []) 44 p (join_by 44 (q ∷ ps)
 
 -- what lines are ended of
 Ended : List ℕ → List (List ℕ) → Type 0
-Ended bs ls = ((end_by 10 ls ≡ bs) ⊎ (end_by 10 ls ≡ bs ++ (10 ∷ []))) × AllByRecursion (Lacks 10) ls
+Ended bs ls = (end_by 10 ls ≡ bs) ⊎ (end_by 10 ls ≡ bs ++ (10 ∷ []))
 
-ended_nil : (bs : List ℕ) (ls : List (List ℕ)) → Ended bs ls → Ended (10 ∷ bs) ([] ∷ ls)
+ended_more : (b : ℕ) (bs : List ℕ) (ls ms : List (List ℕ)) → end_by 10 ms ≡ b ∷ end_by 10 ls → Ended bs ls → Ended (b ∷ bs) ms
 unfolding Ended
-ended_nil bs ls (inl e, l) = (inl (ap (λ x. 10 ∷ x) e), (tt, l))
-ended_nil bs ls (inr e, l) = (inr (ap (λ x. 10 ∷ x) e), (tt, l))
+ended_more b bs ls ms m (inl e) = inl (m ∙ ap (λ x. b ∷ x) e)
+ended_more b bs ls ms m (inr e) = inr (m ∙ ap (λ x. b ∷ x) e)
 
-ended_onto : (b : ℕ) (bs p : List ℕ) (ps : List (List ℕ)) → (b ≡ 10 → ⊥) → Ended bs (p ∷ ps) → Ended (b ∷ bs) ((b ∷ p) ∷ ps)
+lines_ended : (bs : List ℕ) → Ended bs (lines bs)
 unfolding Ended
-ended_onto b bs p ps ne (inl e, l) = (inl (ap (λ x. b ∷ x) e), ((ne, l.0), l.1))
-ended_onto b bs p ps ne (inr e, l) = (inr (ap (λ x. b ∷ x) e), ((ne, l.0), l.1))
-
-pub lines_join : LinesJoin
-unfolding Ended
-lines_join [] = (inl refl, tt)
-lines_join (b ∷ []) = go (eqb b 10) refl
+lines_ended [] = inl refl
+lines_ended (b ∷ []) = go (eqb b 10) refl
   where
-    go : (t : Bool) → eqb b 10 ≡ t → Ended (b ∷ []) (lines (b ∷ []))
-    go true e = subst (Ended (b ∷ [])) (ap (λ t. cond t ([] ∷ []) ((b ∷ []) ∷ [])) (sym e)) (inl (ap (λ x. x ∷ []) (sym (eqb-true b 10 e))), (tt, tt))
-    go false e = subst (Ended (b ∷ [])) (ap (λ t. cond t ([] ∷ []) ((b ∷ []) ∷ [])) (sym e)) (inr refl, ((eqb-false b 10 e, tt), tt))
-lines_join (b ∷ x ∷ xs) = go (eqb b 10) refl (lines_join (x ∷ xs))
+    go : (t : Bool) → eqb b 10 ≡ t → Ended (b ∷ []) (cond t ([] ∷ []) ((b ∷ []) ∷ []))
+    go true e = inl (ap (λ x. x ∷ []) (sym (eqb-true b 10 e)))
+    go false e = inr refl
+lines_ended (b ∷ x ∷ xs) = go (eqb b 10) refl (lines_ended (x ∷ xs))
   where
     bs : List ℕ
     bs = x ∷ xs
 
-    go : (t : Bool) → eqb b 10 ≡ t → Ended bs (lines bs) → Ended (b ∷ bs) (lines (b ∷ bs))
-    go true e ih = subst (Ended (b ∷ bs)) (ap (λ t. cond t ([] ∷ lines bs) (onto_first b (lines bs))) (sym e)) (subst (λ c. Ended (c ∷ bs) ([] ∷ lines bs)) (sym (eqb-true b 10 e)) (ended_nil bs (lines bs) ih))
-    go false e ih =
-        subst (Ended (b ∷ bs)) (ap (onto_first b) (sym (lines_cut x xs)) ∙ ap (λ t. cond t ([] ∷ lines bs) (onto_first b (lines bs))) (sym e))
-        (ended_onto b bs (front 10 bs) (lines_in (after 10 bs)) (eqb-false b 10 e) (subst (Ended bs) (lines_cut x xs) ih))
+    go : (t : Bool) → eqb b 10 ≡ t → Ended bs (lines bs) → Ended (b ∷ bs) (cond t ([] ∷ lines bs) (onto_first b (lines bs)))
+    go true e ih = ended_more b bs (lines bs) ([] ∷ lines bs) (ap (λ c. c ∷ end_by 10 (lines bs)) (sym (eqb-true b 10 e))) ih
+    go false e ih = ended_more b bs (lines bs) (onto_first b (lines bs)) (rw (lines_cut x xs)) ih
+
+pub lines_join : LinesJoin
+unfolding Ended
+lines_join bs = (lines_ended bs, pieces_lack [] 10 bs tt)
 
 -- lines before more text
 lines_before : (ls : List (List ℕ)) (rest : List ℕ) → AllByRecursion (Lacks 10) ls → lines (end_by 10 ls ++ rest) ≡ ls ++ lines rest
