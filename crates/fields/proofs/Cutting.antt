@@ -41,7 +41,7 @@ lines_cut b (x ∷ xs) =
     elim (eqb b 10) as (λ t. cond t ([] ∷ lines bs) (onto_first b (lines bs)) ≡ cond t [] (b ∷ front 10 bs) ∷ lines_in (cond t (Some bs) (after 10 bs))) [ true ↦ refl | false ↦ ap (onto_first b) rest ]
 
 pub after_shorter : (c : ℕ) (bs xs : List ℕ) → after c bs ≡ Some xs → length xs < length bs
-after_shorter c [] xs e = let z : ◌≡◌ {A = ℕ} 0 1 = cc in absurd (omega arith)
+after_shorter c [] xs e = cc
 after_shorter c (b ∷ bs) xs e =
     let rest = after_shorter c bs xs in
     elim (eqb b c) as (λ t. cond t (Some bs) (after c bs) ≡ Some xs → length xs < suc (length bs)) [

@@ -2,6 +2,7 @@
 ghost use Rattle.std.specs.Prelude.{◌≡◌};
 ghost use Rattle.fields.specs.Faults.{fault_number, place_of};
 
+// Each variant keeps its field: a struct of a field and a kind would have these variants again, and say no more.
 #[derive(Clone, Copy, PartialEq, Eq, Debug)]
 pub enum FieldFault {
     // 5: it is empty
