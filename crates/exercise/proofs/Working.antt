@@ -50,7 +50,7 @@ module _ (ws : List ℕ) (r w : ℕ) (small : r < 2 ^ 32) (told : Ok w ≡ total
 
   -- the children cannot be refused, but memory may be wanting
   pub only_memory : {X : Type 0} (view : X → Answer) (wanted : Result Answer Fault) (ps : List ℕ) (f : Failure) → parents_of ws r ≡ Ok ps → Yields {X = Vec ℕ Global} vec_items (Err f) (children_of ps) → Yields view (Err f) wanted
-  only_memory view wanted ps Memory e h = tt
+  only_memory view wanted ps (Memory m) e h = tt
   only_memory view wanted ps (Told f) e h = let ok = the_children ps e in let z : ◌≡◌ {A = ℕ} 0 1 = cc in absurd (omega arith)
 
 -- the parents of an answer are those of systematic resampling

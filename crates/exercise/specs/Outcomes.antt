@@ -14,7 +14,7 @@ in_result view (Err e) = Err e
 -- r stands for what is wanted, unless memory was wanting
 abbrev pub Yields : {X Y : Type 0} → (X → Y) → Result X Failure → Result Y Fault → Type 0
 Yields view (Ok x) wanted = wanted ≡ Ok (view x)
-Yields view (Err Memory) wanted = Unit {0}
+Yields view (Err (Memory e)) wanted = Unit {0}
 Yields view (Err (Told f)) wanted = wanted ≡ Err f
 
 abbrev pub exercise_view : Exercise → List ℕ × ℕ

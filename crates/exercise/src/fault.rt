@@ -2,9 +2,10 @@
 ghost use Rattle.std.specs.Prelude.{◌≡◌, Some};
 ghost use Rattle.exercise.specs.declared.fault.Fault.TheVariants.{Call};
 ghost use Rattle.exercise.specs.declared.fault.Failure.TheVariants.{Memory, Told};
-ghost use Rattle.exercise.specs.Faults.{fault_number, place_of, fault_text};
+ghost use Rattle.exercise.specs.Faults.{fault_number, place_of, fault_text, failure_in};
 
 use fields::fault::FieldFault;
+use fields::list::ListFault;
 use refusals::Refusal;
 use std::alloc::AllocError;
 use std::fmt;
@@ -60,15 +61,27 @@ impl fmt::Display for Fault {
 // A fault that the report tells, or want of memory, of which there is no report.
 #[derive(Clone, Copy)]
 pub enum Failure {
-    Memory,
+    Memory(AllocError),
     Told(Fault),
 }
 
-impl From<AllocError> for Failure {
-    ghost from_gives = { λ _ r. r ≡ Memory };
+impl Failure {
+    // What stopped the reading of a line's numbers.
+    pub(crate) fn in_line(line: u8, fault: ListFault) -> Failure
+        ensures { result ≡ failure_in line fault }
+    {
+        match fault {
+            ListFault::Memory(error) => Failure::Memory(error),
+            ListFault::Field(fault) => Failure::Told(Fault::Field { line, fault }),
+        }
+    }
+}
 
-    fn from(_full: AllocError) -> Failure {
-        Failure::Memory
+impl From<AllocError> for Failure {
+    ghost from_gives = { λ e r. r ≡ Memory e };
+
+    fn from(error: AllocError) -> Failure {
+        Failure::Memory(error)
     }
 }
 

@@ -8,7 +8,7 @@ ghost use Rattle.exercise.specs.Written.{Written};
 
 use crate::fault::{Failure, Fault};
 use fields::cut::{cut, next_line};
-use fields::list::{ListFault, read_numbers};
+use fields::list::read_numbers;
 use fields::number::read_field;
 use std::alloc::Global;
 
@@ -26,20 +26,15 @@ fn split_lines(text: &[u8]) -> Option<(&[u8], &[u8])>
 {
     let (first, rest) = next_line(text)?;
     let (second, end) = next_line(rest)?;
-    match next_line(end) {
-        None => Some((first, second)),
-        Some(_) => None,
-    }
+    next_line(end).is_none().then_some((first, second))
 }
 
 // The field of a line that has one.
 fn sole_field(line: &[u8]) -> Option<&[u8]>
     ensures { option_map (λ x. x.now) result ≡ only_field (fields line.now) }
 {
-    match cut(line, b',') {
-        (field, None) => Some(field),
-        (_, Some(_)) => None,
-    }
+    let (field, more) = cut(line, b',');
+    more.is_none().then_some(field)
 }
 
 // The line of the weights, and the field of the drawn number.
@@ -49,32 +44,21 @@ fn read_shape(input: &[u8]) -> Result<(&[u8], &[u8]), Fault>
     if input.len() > LONGEST_INPUT {
         return Err(Fault::TooLong);
     }
-    let Some((first, second)) = split_lines(input) else {
-        return Err(Fault::Shape);
-    };
-    match sole_field(second) {
-        Some(field) => Ok((first, field)),
-        None => Err(Fault::Shape),
-    }
+    let (first, second) = split_lines(input).ok_or(Fault::Shape)?;
+    let field = sole_field(second).ok_or(Fault::Shape)?;
+    Ok((first, field))
 }
 
 fn read_weights(heap: Global, line: &[u8]) -> Result<Vec<u16>, Failure>
     ensures { Yields vec_items result (weights_of line.now) }
 {
-    match read_numbers(heap, line, u16::MAX) {
-        Ok(weights) => Ok(weights),
-        Err(ListFault::Memory) => Err(Failure::Memory),
-        Err(ListFault::Field(fault)) => Err(Failure::Told(Fault::Field { line: 1, fault })),
-    }
+    read_numbers(heap, line, u16::MAX).map_err(|fault| Failure::in_line(1, fault))
 }
 
 fn read_drawn(field: &[u8]) -> Result<u32, Fault>
     ensures { result ≡ drawn_of field.now }
 {
-    match read_field(field, 1, u32::MAX) {
-        Ok(drawn) => Ok(drawn),
-        Err(fault) => Err(Fault::Field { line: 2, fault }),
-    }
+    read_field(field, 1, u32::MAX).map_err(|fault| Fault::Field { line: 2, fault })
 }
 
 fn read_parts(heap: Global, input: &[u8]) -> Result<Exercise, Failure>

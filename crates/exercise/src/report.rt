@@ -22,7 +22,7 @@ fn text_of(heap: Global, input: &[u8]) -> Result<String, AllocError>
     match answer(heap, input) {
         Ok(solution) => format!(in heap; "{solution}"),
         Err(Failure::Told(fault)) => format!(in heap; "{fault}"),
-        Err(Failure::Memory) => Err(AllocError),
+        Err(Failure::Memory(error)) => Err(error),
     }
 }
 
