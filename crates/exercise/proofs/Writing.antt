@@ -1,5 +1,7 @@
 -- An exercise is read exactly when it is written. Assumes nothing.
-use Rattle.std.proofs.Common.{◌≡◌, ℕ, ◌<◌, ◌≤◌, Bool, true, false, cond, ltb, ◌⊎◌, List, [], ◌∷◌, ◌++◌, length, IfOk, Some, None, Ok, Err, vec_items, Option, Result, sym, refl, ap, ◌∙◌, inl, inr, append_assoc, arith, ltb-false, le-ltb}
+use Rattle.std.proofs.Common.{◌≡◌, ℕ, ◌<◌, ◌≤◌, Bool, true, false, cond, ltb, ◌⊎◌, List, [], ◌∷◌, ◌++◌, length, IfOk, Some, None, Ok, Err, vec_items, string_bytes, Option, Result, String, sym, refl, ap, ◌∙◌, inl, inr, append_assoc, arith, ltb-false, le-ltb}
+use Rattle.std.specs.declared.alloc.AllocError.{AllocError}
+use Rattle.std.specs.declared.alloc.Global.{Global}
 use Rattle.std.specs.List.{AllByRecursion}
 use Rattle.std.proofs.ByRecursion.{All-append}
 use Rattle.std.proofs.lemmas.List.{append-nil, append_cancel_right}
@@ -145,5 +147,6 @@ read_is_written bs (Ok e) h = written_from_read bs (vec_items e.weights) e.drawn
 read_is_written bs (Err f) h = tt
 
 -- what is printed for an exercise that is written
-pub written_report : (bs text ws : List ℕ) (n : ℕ) → text ≡ report_of bs → Written ws n bs → text ≡ result_text (answer_of ws n)
-written_report bs text ws n e w = e ∙ ap (λ x. result_text (in_exercise x)) (read_from_written bs ws n w)
+pub written_report : (bs : List ℕ) (r : Result (String Global) AllocError) → IfOk r (λ text. string_bytes text ≡ report_of bs) → IfOk r (λ text. (ws : List ℕ) (n : ℕ) → Written ws n bs → string_bytes text ≡ result_text (answer_of ws n))
+written_report bs (Ok text) e = λ ws n w. e ∙ ap (λ x. result_text (in_exercise x)) (read_from_written bs ws n w)
+written_report bs (Err f) e = tt

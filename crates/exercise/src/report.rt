@@ -16,20 +16,14 @@ fn answer(heap: Global, input: &[u8]) -> Result<Solution, Failure>
     solve(heap, &exercise.weights, exercise.drawn)
 }
 
-fn text_of(heap: Global, input: &[u8]) -> Result<String, AllocError>
-    ensures { IfOk result (λ text. string_bytes text ≡ report_of input.now) }
+// What is printed for an input; want of memory is the only other outcome.
+pub fn report(heap: Global, input: &[u8]) -> Result<String, AllocError>
+    ensures bytes { IfOk result (λ text. string_bytes text ≡ report_of input.now) }
+    ensures worked { IfOk result (λ text. (ws : List ℕ) (n : ℕ) → Written ws n input.now → string_bytes text ≡ result_text (answer_of ws n)) }
 {
     match answer(heap, input) {
         Ok(solution) => format!(in heap; "{solution}"),
         Err(Failure::Told(fault)) => format!(in heap; "{fault}"),
         Err(Failure::Memory(error)) => Err(error),
     }
-}
-
-// What is printed for an input; want of memory is the only other outcome.
-pub fn report(heap: Global, input: &[u8]) -> Result<String, AllocError>
-    ensures bytes { IfOk result (λ text. string_bytes text ≡ report_of input.now) }
-    ensures worked { IfOk result (λ text. (ws : List ℕ) (n : ℕ) → Written ws n input.now → string_bytes text ≡ result_text (answer_of ws n)) }
-{
-    text_of(heap, input)
 }
