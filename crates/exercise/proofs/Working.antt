@@ -54,12 +54,8 @@ module _ (ws : List ℕ) (r w : ℕ) (small : r < 2 ^ 32) (told : Ok w ≡ total
   only_memory view wanted ps (Told f) e h = let ok = the_children ps e in let z : ◌≡◌ {A = ℕ} 0 1 = cc in absurd (omega arith)
 
 -- the parents of an answer are those of systematic resampling
-answered_systematic : (ws : List ℕ) (r : ℕ) (t : Result ℕ Refusal) (a : Answer) → r < 2 ^ 32 → total_of ws ≡ t → in_call (answer ws r) t ≡ Ok a → Systematic ws a.offset a.parents
+pub answered_systematic : (ws : List ℕ) (r : ℕ) (t : Result ℕ Refusal) (a : Answer) → r < 2 ^ 32 → total_of ws ≡ t → in_call (answer ws r) t ≡ Ok a → Systematic ws a.offset a.parents
 answered_systematic ws r (Ok w) a small told h =
     let same : answer ws r w ≡ a = cc in
     subst (λ (x : Answer). Systematic ws x.offset x.parents) same (systematic ws (offset r w) (inside ws r w small (sym told)))
 answered_systematic ws r (Err e) a small told h = let z : ◌≡◌ {A = ℕ} 0 1 = cc in absurd (omega arith)
-
-pub worked_systematic : (ws : List ℕ) (r : ℕ) → r < 2 ^ 32 → (s : Result Solution Failure) → Yields solution_view s (answer_of ws r) → IfOk s (λ x. Systematic ws x.offset (vec_items x.parents))
-worked_systematic ws r small (Ok x) h = answered_systematic ws r (total_of ws) (solution_view x) small refl h
-worked_systematic ws r small (Err f) h = tt

@@ -142,10 +142,6 @@ read_from_written bs ws r w =
     let number : drawn_of f ≡ Ok r = ap (at_line 2) (read_from_numeral 1 4294967295 f r w.drawn) in
     ap in_shape shape ∙ ap (λ x. both x (drawn_of f)) numbers ∙ ap (both (Ok ws)) number
 
-pub read_is_written : (bs : List ℕ) (r : Result Exercise Failure) → Yields exercise_view r (exercise_of bs) → IfOk r (λ e. Written (vec_items e.weights) e.drawn bs)
-read_is_written bs (Ok e) h = written_from_read bs (vec_items e.weights) e.drawn h
-read_is_written bs (Err f) h = tt
-
 -- what is printed for an exercise that is written
 pub written_report : (bs : List ℕ) (r : Result (String Global) AllocError) → IfOk r (λ text. string_bytes text ≡ report_of bs) → IfOk r (λ text. (ws : List ℕ) (n : ℕ) → Written ws n bs → string_bytes text ≡ result_text (answer_of ws n))
 written_report bs (Ok text) e = λ ws n w. e ∙ ap (λ x. result_text (in_exercise x)) (read_from_written bs ws n w)

@@ -61,20 +61,14 @@ fn read_drawn(field: &[u8]) -> Result<u32, Fault>
     read_field(field, 1, u32::MAX).map_err(|fault| Fault::Field { line: 2, fault })
 }
 
-fn read_parts(heap: Global, input: &[u8]) -> Result<Exercise, Failure>
-    ensures { Yields exercise_view result (exercise_of input.now) }
-{
-    let (line, field) = read_shape(input)?;
-    let weights = read_weights(heap, line)?;
-    let drawn = read_drawn(field)?;
-    Ok(Exercise { weights, drawn })
-}
-
 // The weights and the drawn number, or the first fault. An exercise is read exactly when the input is written in its form.
 pub fn read_exercise(heap: Global, input: &[u8]) -> Result<Exercise, Failure>
     ensures read { Yields exercise_view result (exercise_of input.now) }
     ensures written { IfOk result (λ e. Written e.weights.items e.drawn input.now) }
     ensures all { (ws : List ℕ) (n : ℕ) → Written ws n input.now → exercise_of input.now ≡ Ok (ws, n) }
 {
-    read_parts(heap, input)
+    let (line, field) = read_shape(input)?;
+    let weights = read_weights(heap, line)?;
+    let drawn = read_drawn(field)?;
+    Ok(Exercise { weights, drawn })
 }

@@ -51,8 +51,10 @@ fn children_of(heap: Global, parents: &[u32]) -> Result<Vec<u32>, Failure>
     Ok(children)
 }
 
-fn work_out(heap: Global, weights: &[u16], drawn: u32) -> Result<Solution, Failure>
-    ensures { Yields solution_view result (answer_of weights.now drawn) }
+// Works the exercise out, or tells why it cannot be.
+pub fn solve(heap: Global, weights: &[u16], drawn: u32) -> Result<Solution, Failure>
+    ensures answer { Yields solution_view result (answer_of weights.now drawn) }
+    ensures systematic { IfOk result (λ s. Systematic weights.now s.offset s.parents.items) }
 {
     let total = total_weight(weights)?;
     let offset = offset_of(drawn, total);
@@ -64,12 +66,4 @@ fn work_out(heap: Global, weights: &[u16], drawn: u32) -> Result<Solution, Failu
         parents,
         children,
     })
-}
-
-// Works the exercise out, or tells why it cannot be.
-pub fn solve(heap: Global, weights: &[u16], drawn: u32) -> Result<Solution, Failure>
-    ensures answer { Yields solution_view result (answer_of weights.now drawn) }
-    ensures systematic { IfOk result (λ s. Systematic weights.now s.offset s.parents.items) }
-{
-    work_out(heap, weights, drawn)
 }

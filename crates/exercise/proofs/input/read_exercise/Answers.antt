@@ -1,5 +1,18 @@
-use Rattle.exercise.proofs.Writing.{read_is_written, read_from_written}
+use Rattle.std.proofs.Common.{rules}
+use Rattle.exercise.proofs.Writing.{written_from_read, read_from_written}
 use Rattle.exercise.proofs.input.read_exercise.Goals as goal
 
-pub returns : goal.returns
-returns c = record { read = c.read_parts.ensures; written = read_is_written c.args.input.now c.read_parts.result c.read_parts.ensures; all = λ ws n w. read_from_written c.args.input.now ws n w }
+pub returns-in_err-line-clause-all : goal.returns-in_err-line-clause-all
+returns-in_err-line-clause-all c = read_from_written c.args.input.now
+
+pub returns-in_err-weights-clause-all : goal.returns-in_err-weights-clause-all
+returns-in_err-weights-clause-all c = read_from_written c.args.input.now
+
+pub returns-in_err-drawn-clause-all : goal.returns-in_err-drawn-clause-all
+returns-in_err-drawn-clause-all c = read_from_written c.args.input.now
+
+pub returns-clause-written : goal.returns-clause-written
+returns-clause-written c = written_from_read c.args.input.now _ _ (search rules)
+
+pub returns-clause-all : goal.returns-clause-all
+returns-clause-all c = read_from_written c.args.input.now
