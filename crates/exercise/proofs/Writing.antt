@@ -1,16 +1,18 @@
 -- An exercise is read exactly when it is written. Assumes nothing.
-use Rattle.std.proofs.Common.{◌≡◌, ℕ, ◌<◌, ◌≤◌, Bool, true, false, cond, ltb, ◌⊎◌, List, [], ◌∷◌, ◌++◌, length, IfOk, Some, None, Ok, Err, vec_items, string_bytes, Option, Result, String, sym, refl, ap, ◌∙◌, inl, inr, append_assoc, arith, ltb-false, le-ltb}
+use Rattle.std.proofs.Common.{◌≡◌, ℕ, suc, eqb, ◌<◌, ◌≤◌, Bool, true, false, cond, ltb, ◌⊎◌, List, [], ◌∷◌, ◌++◌, length, IfOk, Some, None, Ok, Err, vec_items, string_bytes, Option, Result, String, sym, refl, ap, ◌∙◌, inl, inr, append_assoc, arith, ltb-false, le-ltb}
 use Rattle.std.specs.declared.alloc.AllocError.{AllocError}
 use Rattle.std.specs.declared.alloc.Global.{Global}
 use Rattle.std.specs.List.{AllByRecursion}
 use Rattle.std.proofs.ByRecursion.{All-append}
 use Rattle.std.proofs.lemmas.List.{append-nil, append_cancel_right}
+use Rattle.std.proofs.lemmas.List.Splits.{length-slice_split}
 use Rattle.fields.specs.declared.fault.FieldFault.{FieldFault}
 use Rattle.fields.specs.Cuts.{fields, lines}
 use Rattle.fields.specs.Numbers.{read_field}
 use Rattle.fields.specs.Lists.{numbers_of, Numerals}
 use Rattle.fields.specs.Laws.{join_by, end_by, Lacks}
 use Rattle.fields.proofs.Exact.{digits_lack, numeral_from_read, read_from_numeral, numbers_exact}
+use Rattle.fields.proofs.Cutting.{split_is_fields}
 use Rattle.fields.proofs.Joining.{fields_join, fields_alone, lines_join, lines_alone}
 use Rattle.exercise.specs.declared.fault.Fault.{Fault}
 use Rattle.exercise.specs.declared.fault.Fault.TheVariants.{TooLong, Shape, Field}
@@ -20,9 +22,6 @@ use Rattle.exercise.specs.declared.input.Exercise.{Exercise}
 use Rattle.exercise.specs.Answers.{answer_of, in_exercise, result_text, report_of}
 use Rattle.exercise.specs.Outcomes.{Yields, exercise_view}
 use Rattle.exercise.specs.Written.{Written}
-
-apart : {X Y : Type 0} (y : Y) (f : Fault) → ◌≡◌ {A = Result Y Fault} (Err f) (Ok y) → X
-apart y f h = let z : ◌≡◌ {A = ℕ} 0 1 = cc in absurd (omega arith)
 
 numerals_lack : (c limit : ℕ) (fs : List (List ℕ)) (ns : List ℕ) → c < 48 → Numerals limit fs ns → AllByRecursion (Lacks c) fs
 numerals_lack c limit [] [] h e = tt
@@ -43,55 +42,52 @@ pub record Shaped (bs a f : List ℕ) : Type 0 where
   pub one : fields second ≡ f ∷ []
 
 only_ok : (fs : List (List ℕ)) (f : List ℕ) → only_field fs ≡ Some f → fs ≡ f ∷ []
-only_ok [] f h = let z : ◌≡◌ {A = ℕ} 0 1 = cc in absurd (omega arith)
-only_ok (g ∷ []) f h = let e : g ≡ f = cc in ap (λ x. x ∷ []) e
-only_ok (g ∷ x ∷ fs) f h = let z : ◌≡◌ {A = ℕ} 0 1 = cc in absurd (omega arith)
+only_ok [] f h = cc
+only_ok (g ∷ []) f h = cc
+only_ok (g ∷ x ∷ fs) f h = cc
 
 beside_ok : (w : List ℕ) (o : Option (List ℕ)) (a f : List ℕ) → beside w o ≡ Ok (a, f) → (w ≡ a) × (o ≡ Some f)
-beside_ok w None a f h = apart (a, f) Shape h
+beside_ok w None a f h = cc
 beside_ok w (Some g) a f h = let e : ◌≡◌ {A = List ℕ × List ℕ} (w, g) (a, f) = cc in (ap (λ p. p.0) e, ap (λ p. Some p.1) e)
 
 two_ok : (ls : List (List ℕ)) (a f : List ℕ) → in_two (two_lines ls) ≡ Ok (a, f) → (b : List ℕ) × (ls ≡ a ∷ b ∷ []) × (fields b ≡ f ∷ [])
-two_ok [] a f h = apart (a, f) Shape h
-two_ok (x ∷ []) a f h = apart (a, f) Shape h
+two_ok [] a f h = cc
+two_ok (x ∷ []) a f h = cc
 two_ok (x ∷ y ∷ []) a f h =
     let p = beside_ok x (only_field (fields y)) a f h in
     (y, ap (λ l. l ∷ y ∷ []) p.0, only_ok (fields y) f p.1)
-two_ok (x ∷ y ∷ z ∷ ls) a f h = apart (a, f) Shape h
+two_ok (x ∷ y ∷ z ∷ ls) a f h = cc
 
 shape_ok : (bs a f : List ℕ) → shape_of bs ≡ Ok (a, f) → Shaped bs a f
 shape_ok bs a f h = go (ltb 32768 (length bs)) refl h
   where
     go : (t : Bool) → ltb 32768 (length bs) ≡ t → cond t (Err TooLong) (in_two (two_lines (lines bs))) ≡ Ok (a, f) → Shaped bs a f
-    go true e g = apart (a, f) TooLong g
+    go true e g = cc
     go false e g = let p = two_ok (lines bs) a f g in record { short = ltb-false 32768 (length bs) e; second = p.0; two = p.1; one = p.2 }
 
 at_ok : {X : Type 0} (k : ℕ) (r : Result X FieldFault) (x : X) → at_line k r ≡ Ok x → r ≡ Ok x
-at_ok k (Ok y) x h = let e : y ≡ x = cc in ap (λ z. Ok z) e
-at_ok k (Err f) x h = apart x (Field k f) h
+at_ok k (Ok y) x h = cc
+at_ok k (Err f) x h = cc
 
 both_ok : {X Y : Type 0} (r : Result X Fault) (s : Result Y Fault) (x : X) (y : Y) → both r s ≡ Ok (x, y) → (r ≡ Ok x) × (s ≡ Ok y)
 both_ok {X} {Y} (Ok u) (Ok v) x y h = let e : ◌≡◌ {A = X × Y} (u, v) (x, y) = cc in (ap (λ p. Ok p.0) e, ap (λ p. Ok p.1) e)
-both_ok (Ok u) (Err f) x y h = apart (x, y) f h
-both_ok (Err f) s x y h = apart (x, y) f h
+both_ok (Ok u) (Err f) x y h = cc
+both_ok (Err f) s x y h = cc
 
 read_ok : (s : Result (List ℕ × List ℕ) Fault) (ws : List ℕ) (r : ℕ) → in_shape s ≡ Ok (ws, r) → (a : List ℕ) × (f : List ℕ) × (s ≡ Ok (a, f)) × (numbers_of 1 65535 (fields a) ≡ Ok ws) × (read_field 1 4294967295 f ≡ Ok r)
 read_ok (Ok p) ws r h =
     let q = both_ok (weights_of p.0) (drawn_of p.1) ws r h in
     (p.0, p.1, refl, at_ok 1 (numbers_of 1 65535 (fields p.0)) ws q.0, at_ok 2 (read_field 1 4294967295 p.1) r q.1)
-read_ok (Err f) ws r h = apart (ws, r) f h
+read_ok (Err f) ws r h = cc
 
-numerals_some : (limit : ℕ) (fs : List (List ℕ)) (ns : List ℕ) → 0 < length fs → Numerals limit fs ns → 0 < length ns
-numerals_some limit [] ns h e = absurd (omega arith)
-numerals_some limit (f ∷ fs) [] h e = absurd e
-numerals_some limit (f ∷ fs) (n ∷ ns) h e = omega arith
+numerals_length : (limit : ℕ) (fs : List (List ℕ)) (ns : List ℕ) → Numerals limit fs ns → length fs ≡ length ns
+numerals_length limit [] [] e = refl
+numerals_length limit [] (n ∷ ns) e = absurd e
+numerals_length limit (f ∷ fs) [] e = absurd e
+numerals_length limit (f ∷ fs) (n ∷ ns) e = ap (λ k. suc k) (numerals_length limit fs ns e.1)
 
 some_field : (bs : List ℕ) → 0 < length (fields bs)
-some_field bs = go (fields bs) (fields_join bs).0 refl
-  where
-    go : (fs : List (List ℕ)) → join_by 44 fs ≡ bs → fields bs ≡ fs → 0 < length fs
-    go [] e same = let none : fields [] ≡ [] = ap fields e ∙ same in let z : ◌≡◌ {A = ℕ} 1 0 = ap length none in absurd (omega arith)
-    go (f ∷ fs) e same = omega arith
+some_field bs = omega (arith, ap length (split_is_fields bs), length-slice_split (λ b. eqb b 44) bs)
 
 ended : (a b : List ℕ) → end_by 10 (a ∷ b ∷ []) ≡ a ++ (10 ∷ (b ++ (10 ∷ [])))
 ended a b = append_assoc a (10 ∷ []) (end_by 10 (b ∷ [])) ∙ ap (λ l. a ++ (10 ∷ l)) (append-nil (b ++ (10 ∷ [])))
@@ -108,7 +104,7 @@ written_from_read bs ws r h =
     let whole : end_by 10 (lines bs) ≡ join_by 44 (fields a) ++ (10 ∷ (f ++ (10 ∷ []))) = ap (end_by 10) s.two ∙ ended a s.second ∙ ap (λ l. l ++ (10 ∷ (s.second ++ (10 ∷ [])))) (sym line) ∙ ap (λ l. join_by 44 (fields a) ++ (10 ∷ (l ++ (10 ∷ [])))) (sym last) in
     record {
       short = s.short;
-      some_weight = numerals_some 65535 (fields a) ws (some_field a) numerals;
+      some_weight = omega (arith, some_field a, numerals_length 65535 (fields a) ws numerals);
       digits = fields a;
       last = f;
       weights = numerals;
@@ -125,18 +121,13 @@ joined_fields : (fs : List (List ℕ)) → 0 < length fs → AllByRecursion (Lac
 joined_fields [] some l = absurd (omega arith)
 joined_fields (f ∷ fs) some l = fields_alone f fs l
 
-some_digits : (limit : ℕ) (fs : List (List ℕ)) (ns : List ℕ) → 0 < length ns → Numerals limit fs ns → 0 < length fs
-some_digits limit [] [] h e = absurd (omega arith)
-some_digits limit [] (n ∷ ns) h e = absurd e
-some_digits limit (f ∷ fs) ns h e = omega arith
-
 pub read_from_written : (bs ws : List ℕ) (r : ℕ) → Written ws r bs → exercise_of bs ≡ Ok (ws, r)
 read_from_written bs ws r w =
     let a = join_by 44 w.digits in
     let f = w.last in
     let two : lines bs ≡ a ∷ f ∷ [] = two_pieces bs a f (join_lacks 10 44 w.digits (λ e. absurd (omega arith)) (numerals_lack 10 65535 w.digits ws (omega arith) w.weights)) (digits_lack 10 f (omega arith) w.drawn.only_digits) w.drawn.some_digit w.text in
     let one : fields f ≡ f ∷ [] = fields_alone f [] (digits_lack 44 f (omega arith) w.drawn.only_digits, tt) in
-    let all : fields a ≡ w.digits = joined_fields w.digits (some_digits 65535 w.digits ws w.some_weight w.weights) (numerals_lack 44 65535 w.digits ws (omega arith) w.weights) in
+    let all : fields a ≡ w.digits = joined_fields w.digits (omega (arith, w.some_weight, numerals_length 65535 w.digits ws w.weights)) (numerals_lack 44 65535 w.digits ws (omega arith) w.weights) in
     let shape : shape_of bs ≡ Ok (a, f) = ap (λ t. cond t (Err TooLong) (in_two (two_lines (lines bs)))) (le-ltb 32768 (length bs) w.short) ∙ ap (λ ls. in_two (two_lines ls)) two ∙ ap (λ fs. beside a (only_field fs)) one in
     let numbers : weights_of a ≡ Ok ws = ap (λ fs. at_line 1 (numbers_of 1 65535 fs)) all ∙ ap (at_line 1) ((numbers_exact 1 65535 w.digits ws).1 w.weights) in
     let number : drawn_of f ≡ Ok r = ap (at_line 2) (read_from_numeral 1 4294967295 f r w.drawn) in

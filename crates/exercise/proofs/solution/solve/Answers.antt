@@ -6,11 +6,8 @@ use Rattle.resampling.specs.Calls.{total_of}
 use Rattle.exercise.specs.declared.fault.Failure.{Failure}
 use Rattle.exercise.specs.Answers.{Answer, in_call, answer, answer_of, parents_of, children_of}
 use Rattle.exercise.specs.Outcomes.{Yields, solution_view}
-use Rattle.exercise.proofs.Working.{answer_is, the_parents, the_children, only_memory, answered_systematic}
+use Rattle.exercise.proofs.Working.{worked, only_memory, answered_systematic}
 use Rattle.exercise.proofs.solution.solve.Goals as goal
-
-ok_same : {E : Type 0} {xs ys : List ℕ} → ◌≡◌ {A = Result (List ℕ) E} (Ok xs) (Ok ys) → xs ≡ ys
-ok_same e = cc
 
 pub returns-in_err-children-clause-answer : goal.returns-in_err-children-clause-answer
 returns-in_err-children-clause-answer c =
@@ -22,13 +19,6 @@ returns-in_err-children-clause-answer c =
 pub returns : goal.returns
 returns c =
     let ws = c.args.weights.now in
-    let r = c.args.drawn in
-    let w = c.in_ok-total.total in
-    let told : Ok w ≡ _ = c.in_ok-total.ensures.value in
-    let ps : parents_of ws r ≡ Ok (vec_items c.in_ok-parents.parents) = c.in_ok-parents.ensures in
-    let cs : children_of (vec_items c.in_ok-parents.parents) ≡ Ok (vec_items c.in_ok-children.children) = ap children_of (sym c.deref.ensures.value) ∙ c.in_ok-children.ensures in
-    let both : Ok (children_of_each (parents ws (offset r w))) ≡ Ok (vec_items c.in_ok-children.children) = sym (the_children ws r w c.ranges.drawn.fits told _ ps) ∙ cs in
-    let answered =
-    ap (in_call (answer ws r)) (sym told)
-    ∙ ap (λ (a : Answer). Ok a) (answer_is w (offset r w) (parents ws (offset r w)) (children_of_each (parents ws (offset r w))) (sym c.offset_of-offset.ensures.value) (sym (the_parents ws r w c.ranges.drawn.fits told _ ps)) (ok_same both)) in
-    record { answer = answered; systematic = answered_systematic ws r (total_of ws) _ c.ranges.drawn.fits refl answered }
+    let cs = ap children_of (sym c.deref.ensures.value) ∙ c.in_ok-children.ensures in
+    let answered = worked ws c.args.drawn c.in_ok-total.total c.ranges.drawn.fits c.in_ok-total.ensures.value c.offset_of-offset.result (vec_items c.in_ok-parents.parents) (vec_items c.in_ok-children.children) c.offset_of-offset.ensures.value c.in_ok-parents.ensures cs in
+    record { answer = answered; systematic = answered_systematic ws c.args.drawn (total_of ws) _ c.ranges.drawn.fits refl answered }
