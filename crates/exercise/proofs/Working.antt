@@ -1,9 +1,7 @@
 -- An exercise that has a total is worked out to its end. Assumes nothing.
-use Rattle.std.proofs.Common.{◌≡◌, ℕ, ◌^◌, ◌<◌, Bool, true, cond, ◌&&◌, List, length, IfOk, Ok, Err, vec_items, Result, Vec, sym, refl, ap, ◌∙◌, subst, arith}
-use Rattle.std.specs.declared.alloc.Global.{Global}
+use Rattle.std.proofs.Common.{◌≡◌, ℕ, ◌^◌, ◌<◌, Bool, true, cond, ◌&&◌, List, length, Ok, Err, sym, ap, ◌∙◌, subst, arith}
 use Rattle.std.proofs.lemmas.List.FromFn.{length-map-range_with_len}
 use Rattle.std.proofs.lemmas.Bool.{le-leb, and_from}
-use Rattle.refusals.specs.declared.Refusal.{Refusal}
 use Rattle.refusals.specs.declared.Refusal.TheVariants.{OutOfRange, NoRoom}
 use Rattle.resampling.specs.Marks as marks
 use Rattle.resampling.specs.Marks.{total, offset, parent}
@@ -13,12 +11,7 @@ use Rattle.resampling.specs.Calls.{in_range, all_below, total_of, fitting, child
 use Rattle.resampling.proofs.Owners.{offset_below}
 use Rattle.resampling.proofs.Shares.{systematic, parents_below}
 use Rattle.resampling.proofs.Replies.{total_granted}
-use Rattle.exercise.specs.declared.fault.Fault.{Fault}
-use Rattle.exercise.specs.declared.fault.Failure.{Failure}
-use Rattle.exercise.specs.declared.fault.Failure.TheVariants.{Memory, Told}
-use Rattle.exercise.specs.Answers.{Answer, in_call, answer, answer_of, parents_of, children_of}
-use Rattle.exercise.specs.declared.solution.Solution.{Solution}
-use Rattle.exercise.specs.Outcomes.{Yields, solution_view}
+use Rattle.exercise.specs.Answers.{in_call, parents_of, children_of}
 
 module _ (ws : List ℕ) (r w : ℕ) (small : r < 2 ^ 32) (told : Ok w ≡ total_of ws) where
   pub the_parents : (ps : List ℕ) → parents_of ws r ≡ Ok ps → ps ≡ marks.parents ws (offset r w)
@@ -42,22 +35,6 @@ module _ (ws : List ℕ) (r w : ℕ) (small : r < 2 ^ 32) (told : Ok w ≡ total
       let reply : children_reply qs (length qs) ≡ Ok (length qs) = ap (λ (t : Bool). cond t (fitting (length qs) (length qs)) (Err OutOfRange)) known ∙ fits in
       ap children_of (the_parents ps e) ∙ ap (in_call (λ _. children_of_each qs)) reply
 
-  -- the answer is what was worked out part by part
-  pub worked : (o : ℕ) (ps cs : List ℕ) → o ≡ offset r w → parents_of ws r ≡ Ok ps → children_of ps ≡ Ok cs → answer_of ws r ≡ Ok (record { total = w; offset = o; parents = ps; children = cs })
-  worked o ps cs at e f =
-      let p = the_parents ps e in
-      let g : Ok cs ≡ Ok (children_of_each (marks.parents ws (offset r w))) = sym f ∙ the_children ps e in
-      let start : answer_of ws r ≡ Ok (answer ws r w) = ap (in_call (answer ws r)) (sym told) in
-      cc
-
-  -- the children cannot be refused, but memory may be wanting
-  pub only_memory : {X : Type 0} (view : X → Answer) (wanted : Result Answer Fault) (ps : List ℕ) (f : Failure) → parents_of ws r ≡ Ok ps → Yields {X = Vec ℕ Global} vec_items (Err f) (children_of ps) → Yields view (Err f) wanted
-  only_memory view wanted ps (Memory m) e h = tt
-  only_memory view wanted ps (Told f) e h = let ok = the_children ps e in cc
-
--- the parents of an answer are those of systematic resampling
-pub answered_systematic : (ws : List ℕ) (r : ℕ) (t : Result ℕ Refusal) (a : Answer) → r < 2 ^ 32 → total_of ws ≡ t → in_call (answer ws r) t ≡ Ok a → Systematic ws a.offset a.parents
-answered_systematic ws r (Ok w) a small told h =
-    let same : answer ws r w ≡ a = cc in
-    subst (λ (x : Answer). Systematic ws x.offset x.parents) same (systematic ws (offset r w) (inside ws r w small (sym told)))
-answered_systematic ws r (Err e) a small told h = cc
+  -- and they are those of systematic resampling
+  pub parents_systematic : (o : ℕ) (ps : List ℕ) → o ≡ offset r w → parents_of ws r ≡ Ok ps → Systematic ws o ps
+  parents_systematic o ps at e = rw (at, the_parents ps e) (systematic ws (offset r w) inside)

@@ -1,5 +1,5 @@
 -- An exercise is read exactly when it is written. Assumes nothing.
-use Rattle.std.proofs.Common.{◌≡◌, ℕ, suc, eqb, ◌<◌, ◌≤◌, Bool, true, false, cond, ltb, ◌⊎◌, List, [], ◌∷◌, ◌++◌, length, IfOk, Some, None, Ok, Err, vec_items, string_bytes, Option, Result, String, sym, refl, ap, ◌∙◌, inl, inr, append_assoc, arith, ltb-false, le-ltb}
+use Rattle.std.proofs.Common.{◌≡◌, ℕ, suc, eqb, ◌<◌, ◌≤◌, Bool, true, false, cond, ltb, ◌⊎◌, List, [], ◌∷◌, ◌++◌, length, IfOk, Some, None, Ok, Err, string_bytes, Option, Result, String, sym, refl, ap, ◌∙◌, inl, inr, append_assoc, arith, ltb-false, le-ltb}
 use Rattle.std.specs.declared.alloc.AllocError.{AllocError}
 use Rattle.std.specs.declared.alloc.Global.{Global}
 use Rattle.std.specs.List.{AllByRecursion}
@@ -15,12 +15,9 @@ use Rattle.fields.proofs.Exact.{digits_lack, numeral_from_read, read_from_numera
 use Rattle.fields.proofs.Cutting.{split_is_fields}
 use Rattle.fields.proofs.Joining.{fields_join, fields_alone, lines_join, lines_alone}
 use Rattle.exercise.specs.declared.fault.Fault.{Fault}
-use Rattle.exercise.specs.declared.fault.Fault.TheVariants.{TooLong, Shape, Field}
+use Rattle.exercise.specs.declared.fault.Fault.TheVariants.{TooLong}
 use Rattle.exercise.specs.Inputs.{two_lines, only_field, beside, in_two, shape_of, at_line, weights_of, drawn_of, both, in_shape, exercise_of}
-use Rattle.exercise.specs.declared.fault.Failure.{Failure}
-use Rattle.exercise.specs.declared.input.Exercise.{Exercise}
 use Rattle.exercise.specs.Answers.{answer_of, in_exercise, result_text, report_of}
-use Rattle.exercise.specs.Outcomes.{Yields, exercise_view}
 use Rattle.exercise.specs.Written.{Written}
 
 numerals_lack : (c limit : ℕ) (fs : List (List ℕ)) (ns : List ℕ) → c < 48 → Numerals limit fs ns → AllByRecursion (Lacks c) fs

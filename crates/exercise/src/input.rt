@@ -30,6 +30,7 @@ fn split_lines(text: &[u8]) -> Option<(&[u8], &[u8])>
 }
 
 // The field of a line that has one.
+#[tactic(auto, using(fields::proofs::Cutting::fields_cut))]
 fn sole_field(line: &[u8]) -> Option<&[u8]>
     ensures { option_map (λ x. x.now) result ≡ only_field (fields line.now) }
 {

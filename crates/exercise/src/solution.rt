@@ -35,6 +35,7 @@ impl fmt::Display for Solution {
     }
 }
 
+// This and `children_of` stay two: a function over the call that writes would need that call's contract as a parameter.
 fn parents_of(heap: Global, weights: &[u16], drawn: u32) -> Result<Vec<u32>, Failure>
     ensures { Yields vec_items result (parents_of weights.now drawn) }
 {
@@ -52,6 +53,7 @@ fn children_of(heap: Global, parents: &[u32]) -> Result<Vec<u32>, Failure>
 }
 
 // Works the exercise out, or tells why it cannot be.
+#[tactic(auto, using(crate::proofs::Working::the_children))]
 pub fn solve(heap: Global, weights: &[u16], drawn: u32) -> Result<Solution, Failure>
     ensures answer { Yields solution_view result (answer_of weights.now drawn) }
     ensures systematic { IfOk result (λ s. Systematic weights.now s.offset s.parents.items) }
