@@ -8,11 +8,10 @@ ghost use Rattle.exercise.specs.Written.{Written};
 
 use crate::fault::{Failure, Fault};
 use fields::cut::{cut, next_line};
+pub use fields::input::LONGEST_INPUT;
 use fields::list::read_numbers;
 use fields::number::read_field;
 use std::alloc::Global;
-
-pub const LONGEST_INPUT: usize = 32768;
 
 #[derive(Drop)]
 pub struct Exercise {

@@ -1,10 +1,10 @@
 -- The pieces between separators, joined again. Assumes nothing.
-use Rattle.std.proofs.Common.{◌≡◌, ℕ, ◌<◌, Bool, true, false, cond, eqb, ◌⊎◌, List, [], ◌∷◌, ◌++◌, length, sym, refl, ap, ◌∙◌, subst, inl, inr, append_assoc, not-suc-le-zero, arith, eq-eqb, ne_eqb, eqb-true}
+use Rattle.std.proofs.Common.{◌≡◌, ℕ, ◌<◌, Bool, true, false, cond, eqb, ◌⊎◌, List, [], ◌∷◌, ◌++◌, length, sym, refl, ap, ◌∙◌, inl, inr, append_assoc, not-suc-le-zero, arith, eq-eqb, ne_eqb, eqb-true}
 use borrow.Author.Tests.{eqb-false}
 use Rattle.std.specs.List.{AllByRecursion, onto_first}
 use Rattle.std.proofs.lemmas.List.{append-nil}
 use Rattle.std.proofs.lemmas.List.Splits.{join_with_byte-slice_split}
-use Rattle.fields.specs.Cuts.{pieces, fields, lines, front, after, fields_in, lines_in}
+use Rattle.fields.specs.Cuts.{pieces, fields, lines}
 use Rattle.fields.specs.Laws.{join_by, end_by, Lacks, FieldsJoin, FieldsAlone, LinesJoin, LinesAlone}
 use Rattle.fields.proofs.Cutting.{split_is_fields, lines_cut}
 
