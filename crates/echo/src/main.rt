@@ -18,10 +18,7 @@ struct Out {
 
 impl fmt::Write for Out {
     fn write_str(&mut self, s: &str) -> fmt::Result {
-        match self.out.write_all(s.as_bytes()) {
-            Ok(()) => Ok(()),
-            Err(_) => Err(fmt::Error),
-        }
+        self.out.write_all(s.as_bytes()).map_err(|_| fmt::Error)
     }
 }
 
@@ -33,20 +30,9 @@ fn run(rt: &HostRuntime) -> anyhow::Result<()> {
         .read_to_end(&mut input)?;
     let mut row = vec![in heap; 0u32; 8]?;
     let mut f = fmt::Formatter::new(Out { out: rt.stdout() });
-    write_report(
-        Program::Locate,
-        &mut Echo { sum: 0 },
-        &mut row,
-        &input,
-        &mut f,
-    )?;
-    write_report(
-        Program::Lift,
-        &mut Echo { sum: 0 },
-        &mut row,
-        &input,
-        &mut f,
-    )?;
+    for program in [Program::Locate, Program::Lift] {
+        write_report(program, &mut Echo { sum: 0 }, &mut row, &input, &mut f)?;
+    }
     Ok(())
 }
 

@@ -1,14 +1,13 @@
 // Rows to reply with.
-ghost use Rattle.std.specs.Prelude.{◌≡◌, ◌≤◌, ◌++◌, length, take, drop};
+ghost use Rattle.std.specs.Prelude.{◌≡◌, ◌^◌, ◌<◌, length};
 ghost use Rattle.std.specs.List.{range_with_len};
 
-// Writes 0, 1, 2 and so on into the first n places.
-pub(crate) fn count_up(row: &mut [u32], n: u16)
-    requires { n ≤ length row.old }
-    ensures row { row.new ≡ range_with_len 0 n ++ drop n row.old }
-    ensures front { take n row.new ≡ range_with_len 0 n }
+// Writes 0, 1, 2 and so on into a row.
+pub(crate) fn count_up(row: &mut [u32])
+    requires { length row.old < 2 ^ 32 }
+    ensures { row.new ≡ range_with_len 0 (length row.old) }
 {
-    for k in 0..n {
-        row[k as usize] = k as u32;
+    for (k, place) in row.iter_mut().enumerate() {
+        *place = k as u32;
     }
 }

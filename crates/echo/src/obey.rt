@@ -17,36 +17,34 @@ impl Machine for Echo {
     ghost obeys = { echoes };
 
     fn obey(&mut self, line: Line, row: &mut [u32]) -> Result<Option<Reply<usize>>, Refusal> {
-        match line {
+        let reply = match line {
             Line::Map { row: y, bits } => {
-                self.sum = self.sum.wrapping_add(u32::from(y)).wrapping_add(bits);
-                Ok(None)
+                self.add(u32::from(y));
+                self.add(bits);
+                return Ok(None);
             }
-            Line::Seed { value } => {
-                self.sum = self.sum.wrapping_add(value);
-                Ok(None)
+            Line::Seed { value } | Line::Record { value } => {
+                self.add(value);
+                return Ok(None);
             }
-            Line::Record { value } => {
-                self.sum = self.sum.wrapping_add(value);
-                Ok(None)
+            Line::Start { count } => Reply::Started(u32::from(count)),
+            Line::Advance { command } => Reply::Advanced(u32::from(command)),
+            Line::Weigh { reading } => Reply::Weighed(u32::from(reading)),
+            Line::Resample => Reply::Resampled(self.sum),
+            Line::Share { lag, code } => {
+                let lag = lag.map_or(u32::MAX, u32::from);
+                Reply::Shared((lag, u32::from(code)))
             }
-            Line::Start { count } => Ok(Some(Reply::Started(u32::from(count)))),
-            Line::Advance { command } => Ok(Some(Reply::Advanced(u32::from(command)))),
-            Line::Weigh { reading } => Ok(Some(Reply::Weighed(u32::from(reading)))),
-            Line::Resample => Ok(Some(Reply::Resampled(self.sum))),
-            Line::Share {
-                lag: Some(lag),
-                code,
-            } => Ok(Some(Reply::Shared((u32::from(lag), u32::from(code))))),
-            Line::Share { lag: None, code } => Ok(Some(Reply::Shared((u32::MAX, u32::from(code))))),
             Line::Path { particle } => {
-                if usize::from(particle) > row.len() {
+                let count = usize::from(particle);
+                if count > row.len() {
                     return Err(Refusal::NoRoom);
                 }
-                count_up(row, particle);
-                Ok(Some(Reply::Path(usize::from(particle))))
+                count_up(&mut row[..count]);
+                Reply::Path(count)
             }
-            Line::Finish => Ok(Some(Reply::Finished(self.sum))),
-        }
+            Line::Finish => Reply::Finished(self.sum),
+        };
+        Ok(Some(reply))
     }
 }

@@ -1,6 +1,6 @@
-use Rattle.std.proofs.Common.{◌≡◌, ◌++◌, drop}
+use Rattle.std.proofs.Common.{◌≡◌, take}
 use Rattle.std.specs.List.{range_with_len}
 use Rattle.echo.proofs.numbers.count_up.Given as goal
 
 abbrev pub invariant-loop-k : goal.invariant-loop-k
-invariant-loop-k l = l.row ≡ range_with_len 0 l.k ++ drop l.k l.initial.row
+invariant-loop-k l = take l.k l.row ≡ range_with_len 0 l.k
