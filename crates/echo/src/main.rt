@@ -3,7 +3,6 @@
 
 mod echo;
 mod numbers;
-mod obey;
 
 use echo::Echo;
 use logs::line::Program;
@@ -22,7 +21,7 @@ impl fmt::Write for Out {
     }
 }
 
-fn run(rt: &HostRuntime) -> anyhow::Result<()> {
+fn main(rt: HostRuntime) -> anyhow::Result<()> {
     let heap = rt.alloc();
     let mut input = Vec::new(heap);
     rt.stdin()
@@ -31,11 +30,7 @@ fn run(rt: &HostRuntime) -> anyhow::Result<()> {
     let mut row = vec![in heap; 0u32; 8]?;
     let mut f = fmt::Formatter::new(Out { out: rt.stdout() });
     for program in [Program::Locate, Program::Lift] {
-        write_report(program, &mut Echo { sum: 0 }, &mut row, &input, &mut f)?;
+        write_report(program, &mut Echo::default(), &mut row, &input, &mut f)?;
     }
     Ok(())
-}
-
-fn main(rt: HostRuntime) -> anyhow::Result<()> {
-    run(&rt)
 }
