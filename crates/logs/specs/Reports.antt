@@ -1,5 +1,5 @@
 -- The bytes of a report. Assumes nothing.
-use Rattle.std.specs.Prelude.{ℕ, ◌≤◌, List, [], ◌∷◌, ◌++◌, Some, None, Ok, Err, codes, decimal, Option, Result}
+use Rattle.std.specs.Prelude.{◌≡◌, ℕ, ◌≤◌, List, [], ◌∷◌, ◌++◌, Some, None, Ok, Err, codes, decimal, Option, Result}
 use Rattle.logs.specs.declared.fault.RunFault.{RunFault}
 use Rattle.logs.specs.declared.reply.Reply.{Reply}
 use Rattle.logs.specs.declared.reply.Reply.TheVariants.{Started, Advanced, Weighed, Resampled, Shared, Path, Finished}
@@ -41,6 +41,16 @@ map_reply f (Resampled n) = Resampled n
 map_reply f (Shared p) = Shared p
 map_reply f (Path x) = Path (f x)
 map_reply f (Finished n) = Finished n
+
+-- the second reply is the first, with a path that R holds of
+abbrev pub MapsPath : {X Y : Type 0} → (X → Y → Type 0) → Reply X → Reply Y → Type 0
+MapsPath R (Started n) r = r ≡ Started n
+MapsPath R (Advanced n) r = r ≡ Advanced n
+MapsPath R (Weighed n) r = r ≡ Weighed n
+MapsPath R (Resampled n) r = r ≡ Resampled n
+MapsPath R (Shared p) r = r ≡ Shared p
+MapsPath {Y = Y} R (Path x) r = (y : Y) × R x y × (r ≡ Path y)
+MapsPath R (Finished n) r = r ≡ Finished n
 
 abbrev pub codes_of : AfterCommas → List ℕ
 codes_of c = c.0.now

@@ -37,32 +37,20 @@ fn with_codes(reply: Reply<usize>, row: &[u32]) -> Reply<AfterCommas<'_>>
     requires { InReply (length row.now) reply }
     ensures { map_reply codes_of result ≡ map_reply (λ n. take n row.now) reply }
 {
-    match reply {
-        Reply::Started(issued) => Reply::Started(issued),
-        Reply::Advanced(issued) => Reply::Advanced(issued),
-        Reply::Weighed(total) => Reply::Weighed(total),
-        Reply::Resampled(freed) => Reply::Resampled(freed),
-        Reply::Shared(share) => Reply::Shared(share),
-        Reply::Path(count) => Reply::Path(AfterCommas(&row[0..count])),
-        Reply::Finished(freed) => Reply::Finished(freed),
-    }
+    reply.map(|count| AfterCommas(&row[..count]))
 }
 
 fn write_entry<W: fmt::Write>(
     f: &mut fmt::Formatter<W>,
     line: u32,
-    res: Result<Option<Reply<usize>>, RunFault>,
+    outcome: Result<Option<Reply<usize>>, RunFault>,
     row: &[u32],
 ) -> fmt::Result
-    requires { InRow (length row.now) res }
-    ensures { WritesOnOk W.Write.write_str_gives f.old result (entry_text line (viewed (λ n. take n row.now) res)) f.new }
+    requires { InRow (length row.now) outcome }
+    ensures { WritesOnOk W.Write.write_str_gives f.old result (entry_text line (viewed (λ n. take n row.now) outcome)) f.new }
 {
-    let res = match res {
-        Ok(None) => Ok(None),
-        Ok(Some(reply)) => Ok(Some(with_codes(reply, row))),
-        Err(fault) => Err(fault),
-    };
-    f.write(Entry { line, result: res })
+    let result = outcome.map(|told| told.map(|reply| with_codes(reply, row)));
+    f.write(Entry { line, result })
 }
 
 // Runs a log against a machine. Where every write is accepted, the writer took the whole report, and the machine obeyed every line.
