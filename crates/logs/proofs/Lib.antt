@@ -1,5 +1,4 @@
-pub mod Arguing
-pub mod Reading
 pub mod Running
 pub mod Forming
 pub mod Reasoning
+pub mod Reading

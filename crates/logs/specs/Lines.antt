@@ -1,5 +1,6 @@
 -- The lines that a program reads. Assumes nothing.
 use Rattle.std.specs.Prelude.{ℕ, cond, List, [], ◌∷◌, length, Some, None, Ok, Err, Option, Result, ◌==◌, nat_lt}
+use Rattle.std.specs.Borrow.{Bor}
 use Rattle.fields.specs.declared.fault.FieldFault.{FieldFault}
 use Rattle.logs.specs.declared.fault.LineFault.{LineFault}
 use Rattle.logs.specs.declared.fault.LineFault.TheVariants.{TooLong, UnknownLetter, FieldCount, Field}
@@ -56,6 +57,10 @@ map_arguments f Zero = Zero
 map_arguments f (One x) = One (f x)
 map_arguments f (Two x y) = Two (f x) (f y)
 map_arguments f More = More
+
+-- the texts that references to fields point to
+abbrev pub texts : Arguments (Bor (List ℕ)) → Arguments (List ℕ)
+texts a = map_arguments (λ x. x.now) a
 
 abbrev pub arguments_of : {X : Type 0} → List X → Arguments X
 arguments_of [] = Zero
