@@ -5,6 +5,7 @@ pub mod entry;
 pub mod fault;
 pub mod law;
 pub mod line;
+mod lines;
 pub mod machine;
 pub mod read;
 pub mod reply;

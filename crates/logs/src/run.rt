@@ -7,10 +7,10 @@ ghost use Rattle.logs.specs.Runs.{served, whole_report, whole_state};
 use crate::entry::Entry;
 use crate::fault::RunFault;
 use crate::line::Program;
+use crate::lines::Lines;
 use crate::machine::Machine;
 use crate::read::read_line;
 use crate::reply::Reply;
-use fields::cut::next_line;
 use fields::written::AfterCommas;
 use std::fmt;
 
@@ -67,13 +67,9 @@ pub fn write_report<M: Machine, W: fmt::Write>(
     if input.len() > LONGEST_INPUT {
         return write_entry(f, 0, Err(RunFault::InputTooLong), row);
     }
-    let mut rest = input;
-    let mut number = 0;
-    while let Some((line, after)) = next_line(rest) {
-        number += 1;
+    for (number, line) in (1..).zip(Lines(input)) {
         let result = serve(program, machine, row, line);
         write_entry(f, number, result, row)?;
-        rest = after;
     }
     Ok(())
 }
