@@ -45,7 +45,7 @@ pub enum Line {
     Finish,
 }
 
-// The fields after a line's letter, as many as a line can have.
+// The fields after a line's letter, as many as a line can have. A vector of them would ask for memory.
 #[derive(Clone, Copy)]
 pub enum Arguments<T> {
     Zero,

@@ -11,6 +11,11 @@ use fields::number::read_field;
 
 pub const LONGEST_LINE: usize = 100;
 
+// The places of the numbers in a line, whose letter is field 1.
+const FIRST: usize = 2;
+
+const SECOND: usize = 3;
+
 // The limits of the numbers in a line.
 const ROW_LIMIT: u32 = 31;
 
@@ -79,92 +84,48 @@ impl<'a> Arguments<&'a [u8]> {
             _ => Arguments::More,
         }
     }
+}
 
-    fn no_number(self) -> Result<(), LineFault>
-        ensures { result ≡ no_number (texts self.entry) }
-    {
-        match self {
-            Arguments::Zero => Ok(()),
-            _ => Err(LineFault::FieldCount),
-        }
-    }
-
-    fn one_number(self, limit: u32) -> Result<u32, LineFault>
-        ensures value { result ≡ one_number limit (texts self.entry) }
-        ensures bound { IfOk result (λ n. n ≤ limit) }
-    {
-        match self {
-            Arguments::One(field) => Ok(read_field(field, 2, limit)?),
-            _ => Err(LineFault::FieldCount),
-        }
-    }
-
-    fn two_numbers(self, limit: u32, other: u32) -> Result<(u32, u32), LineFault>
-        ensures value { result ≡ two_numbers limit other (texts self.entry) }
-        ensures bound { IfOk result (λ n. (n.0 ≤ limit) × (n.1 ≤ other)) }
-    {
-        match self {
-            Arguments::Two(first, second) => {
-                let a = read_field(first, 2, limit)?;
-                let b = read_field(second, 3, other)?;
-                Ok((a, b))
-            }
-            _ => Err(LineFault::FieldCount),
-        }
-    }
-
-    // A code alone, or a lag and a code.
-    fn share(self) -> Result<Line, LineFault>
-        ensures { result ≡ share_of (texts self.entry) }
-    {
-        let (lag, code) = match self {
-            Arguments::Two(..) => {
-                let (lag, code) = self.two_numbers(LAG_LIMIT, CODE_LIMIT)?;
-                (Some(lag as u16), code)
-            }
-            _ => (None, self.one_number(CODE_LIMIT)?),
-        };
-        Ok(Line::Share {
-            lag,
-            code: code as u16,
-        })
-    }
-
-    // What a line of this letter says.
-    fn line(self, letter: Letter) -> Result<Line, LineFault>
-        ensures { result ≡ line_by letter (texts self.entry) }
-    {
-        match letter {
-            Letter::Map => {
-                let (row, bits) = self.two_numbers(ROW_LIMIT, BITS_LIMIT)?;
-                Ok(Line::Map {
-                    row: row as u8,
-                    bits,
-                })
-            }
-            Letter::Seed => Ok(Line::Seed {
-                value: self.one_number(SEED_LIMIT)?,
-            }),
-            Letter::Record => Ok(Line::Record {
-                value: self.one_number(RECORD_LIMIT)?,
-            }),
-            Letter::Start => Ok(Line::Start {
-                count: self.one_number(COUNT_LIMIT)? as u16,
-            }),
-            Letter::Advance => Ok(Line::Advance {
-                command: self.one_number(COMMAND_LIMIT)? as u8,
-            }),
-            Letter::Weigh => Ok(Line::Weigh {
-                reading: self.one_number(READING_LIMIT)? as u8,
-            }),
-            Letter::Resample => self.no_number().map(|()| Line::Resample),
-            Letter::Share => self.share(),
-            Letter::Path => Ok(Line::Path {
-                particle: self.one_number(PARTICLE_LIMIT)? as u16,
-            }),
-            Letter::Finish => self.no_number().map(|()| Line::Finish),
-        }
-    }
+// What a line of this letter says by the fields after it. A number within its limit fits its type, so no cast loses bits.
+fn line_by(letter: Letter, arguments: Arguments<&[u8]>) -> Result<Line, LineFault>
+    ensures { result ≡ line_by letter (texts arguments.entry) }
+{
+    let line = match (letter, arguments) {
+        (Letter::Map, Arguments::Two(row, bits)) => Line::Map {
+            row: read_field(row, FIRST, ROW_LIMIT)? as u8,
+            bits: read_field(bits, SECOND, BITS_LIMIT)?,
+        },
+        (Letter::Seed, Arguments::One(value)) => Line::Seed {
+            value: read_field(value, FIRST, SEED_LIMIT)?,
+        },
+        (Letter::Record, Arguments::One(value)) => Line::Record {
+            value: read_field(value, FIRST, RECORD_LIMIT)?,
+        },
+        (Letter::Start, Arguments::One(count)) => Line::Start {
+            count: read_field(count, FIRST, COUNT_LIMIT)? as u16,
+        },
+        (Letter::Advance, Arguments::One(command)) => Line::Advance {
+            command: read_field(command, FIRST, COMMAND_LIMIT)? as u8,
+        },
+        (Letter::Weigh, Arguments::One(reading)) => Line::Weigh {
+            reading: read_field(reading, FIRST, READING_LIMIT)? as u8,
+        },
+        (Letter::Resample, Arguments::Zero) => Line::Resample,
+        (Letter::Share, Arguments::One(code)) => Line::Share {
+            lag: None,
+            code: read_field(code, FIRST, CODE_LIMIT)? as u16,
+        },
+        (Letter::Share, Arguments::Two(lag, code)) => Line::Share {
+            lag: Some(read_field(lag, FIRST, LAG_LIMIT)? as u16),
+            code: read_field(code, SECOND, CODE_LIMIT)? as u16,
+        },
+        (Letter::Path, Arguments::One(particle)) => Line::Path {
+            particle: read_field(particle, FIRST, PARTICLE_LIMIT)? as u16,
+        },
+        (Letter::Finish, Arguments::Zero) => Line::Finish,
+        _ => return Err(LineFault::FieldCount),
+    };
+    Ok(line)
 }
 
 // What a line, without its line feed, says to a program.
@@ -177,5 +138,5 @@ pub fn read_line(program: Program, bytes: &[u8]) -> Result<Line, LineFault>
     }
     let (first, rest) = cut(bytes, b',');
     let letter = sole_letter(program, first).ok_or(LineFault::UnknownLetter)?;
-    Arguments::of(rest).line(letter)
+    line_by(letter, Arguments::of(rest))
 }
