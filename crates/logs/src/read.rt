@@ -2,7 +2,7 @@
 ghost use Rattle.std.specs.Prelude.{◌≡◌, ◌≤◌, IfOk, Ok};
 ghost use Rattle.std.specs.Option.{option_map};
 ghost use Rattle.fields.specs.Cuts.{fields_in};
-ghost use Rattle.logs.specs.Lines.{letter_of, only_letter, texts, arguments_of, no_number, one_number, two_numbers, share_of, line_by, line_of};
+ghost use Rattle.logs.specs.Lines.{only_letter, texts, arguments_of, no_number, one_number, two_numbers, share_of, line_by, line_of};
 
 use crate::fault::LineFault;
 use crate::line::{Arguments, Letter, Line, Program};
@@ -37,31 +37,21 @@ const CODE_LIMIT: u32 = u16::MAX as u32;
 
 const PARTICLE_LIMIT: u32 = u16::MAX as u32;
 
-// The letter of a line that this program knows.
-fn known_letter(program: Program, letter: char) -> Option<Letter>
-    ensures { result ≡ letter_of program letter }
-{
-    match (letter, program) {
-        ('M', Program::Locate) => Some(Letter::Map),
-        ('G', Program::Locate) => Some(Letter::Seed),
-        ('D', Program::Lift) => Some(Letter::Record),
-        ('S', _) => Some(Letter::Start),
-        ('A', _) => Some(Letter::Advance),
-        ('W', _) => Some(Letter::Weigh),
-        ('R', _) => Some(Letter::Resample),
-        ('E', _) => Some(Letter::Share),
-        ('P', _) => Some(Letter::Path),
-        ('F', _) => Some(Letter::Finish),
-        _ => None,
-    }
-}
-
 // The first field, if it is one letter that this program knows.
-fn sole_letter(program: Program, first: &[u8]) -> Option<Letter>
+fn known_letter(program: Program, first: &[u8]) -> Option<Letter>
     ensures { result ≡ only_letter program first.now }
 {
-    match first {
-        [byte] => known_letter(program, char::from(*byte)),
+    match (first, program) {
+        (b"M", Program::Locate) => Some(Letter::Map),
+        (b"G", Program::Locate) => Some(Letter::Seed),
+        (b"D", Program::Lift) => Some(Letter::Record),
+        (b"S", _) => Some(Letter::Start),
+        (b"A", _) => Some(Letter::Advance),
+        (b"W", _) => Some(Letter::Weigh),
+        (b"R", _) => Some(Letter::Resample),
+        (b"E", _) => Some(Letter::Share),
+        (b"P", _) => Some(Letter::Path),
+        (b"F", _) => Some(Letter::Finish),
         _ => None,
     }
 }
@@ -137,6 +127,6 @@ pub fn read_line(program: Program, bytes: &[u8]) -> Result<Line, LineFault>
         return Err(LineFault::TooLong);
     }
     let (first, rest) = cut(bytes, b',');
-    let letter = sole_letter(program, first).ok_or(LineFault::UnknownLetter)?;
+    let letter = known_letter(program, first).ok_or(LineFault::UnknownLetter)?;
     line_by(letter, Arguments::of(rest))
 }
