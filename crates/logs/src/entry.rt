@@ -46,11 +46,11 @@ impl fmt::Display for Entry<'_> {
     ghost output = { λ x. Some (entry_text x.line (viewed codes_of x.result)) };
 
     fn fmt<W: fmt::Write>(&self, f: &mut fmt::Formatter<W>) -> fmt::Result {
-        let line = self.line;
-        match self.result {
+        let Entry { line, result } = self;
+        match result {
             Ok(None) => Ok(()),
-            Ok(Some(reply)) => write!(f, "{line},{reply}\n"),
-            Err(fault) => write!(f, "{line},{fault}\n"),
+            Ok(Some(reply)) => writeln!(f, "{line},{reply}"),
+            Err(fault) => writeln!(f, "{line},{fault}"),
         }
     }
 }
