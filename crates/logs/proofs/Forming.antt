@@ -19,9 +19,6 @@ use Rattle.logs.specs.declared.line.Line.TheVariants as line
 use Rattle.logs.specs.Lines.{locate_only, lift_only, letter_of, in_line, both, become, arguments_of, no_number, one_number, two_numbers, share_of, line_by, line_by_known, only_letter, from_fields, line_of}
 use Rattle.logs.specs.Forms.{Parts, parts_of, Writes, Form, LinesExact}
 
-apart : {X Y : Type 0} (y : Y) (f : LineFault) → ◌≡◌ {A = Result Y LineFault} (Err f) (Ok y) → X
-apart y f h = let z : ◌≡◌ {A = ℕ} 0 1 = cc in absurd (omega arith)
-
 code_of : Letter → ℕ
 code_of Map = 77
 code_of Seed = 71
@@ -46,9 +43,6 @@ one_test {X} c k r s l here there h = go (eqb c k) refl h
     go true e g = here (eqb-true c k e) g
     go false e g = there g
 
-none_known : {X : Type 0} (l : Letter) → ◌≡◌ {A = Option Letter} None (Some l) → X
-none_known l h = let z : ◌≡◌ {A = ℕ} 0 1 = cc in absurd (omega arith)
-
 letter_known : (p : Program) (c : ℕ) (l : Letter) → letter_of p c ≡ Some l → c ≡ code_of l
 unfolding code_of
 letter_known p c l =
@@ -61,55 +55,55 @@ letter_known p c l =
     (one_test c 82 _ _ l (λ e h. e ∙ same Resample l h)
     (one_test c 69 _ _ l (λ e h. e ∙ same Share l h)
     (one_test c 80 _ _ l (λ e h. e ∙ same Path l h)
-    (one_test c 70 _ _ l (λ e h. e ∙ same Finish l h) (λ h. none_known l h))))))))))
+    (one_test c 70 _ _ l (λ e h. e ∙ same Finish l h) (λ h. cc))))))))))
   where
     same : (k l : Letter) → Some k ≡ Some l → code_of k ≡ code_of l
     same k l h = let e : k ≡ l = cc in ap code_of e
 
     locates : (p : Program) (k l : Letter) → locate_only p k ≡ Some l → code_of k ≡ code_of l
     locates Locate k l h = same k l h
-    locates Lift k l h = none_known l h
+    locates Lift k l h = cc
 
     lifts : (p : Program) (k l : Letter) → lift_only p k ≡ Some l → code_of k ≡ code_of l
-    lifts Locate k l h = none_known l h
+    lifts Locate k l h = cc
     lifts Lift k l h = same k l h
 
 become_ok : {X : Type 0} (f : X → Line) (r : Result X LineFault) (l : Line) → become f r ≡ Ok l → (x : X) × (r ≡ Ok x) × (f x ≡ l)
 become_ok f (Ok x) l h = (x, refl, cc)
-become_ok f (Err e) l h = apart l e h
+become_ok f (Err e) l h = cc
 
 pub in_line_ok : (k limit : ℕ) (a : List ℕ) (n : ℕ) → in_line (read_field k limit a) ≡ Ok n → Numeral limit a n
 in_line_ok k limit a n h = numeral_from_read k limit a n (go (read_field k limit a) h)
   where
     go : (r : Result ℕ FieldFault) → in_line r ≡ Ok n → r ≡ Ok n
     go (Ok m) g = let e : m ≡ n = cc in ap (λ (x : ℕ). Ok x) e
-    go (Err f) g = apart n (Field f) g
+    go (Err f) g = cc
 
 both_ok : (r s : Result ℕ LineFault) (x y : ℕ) → both r s ≡ Ok (x, y) → (r ≡ Ok x) × (s ≡ Ok y)
 both_ok (Ok u) (Ok v) x y h = let e : ◌≡◌ {A = ℕ × ℕ} (u, v) (x, y) = cc in (ap (λ p. Ok p.0) e, ap (λ p. Ok p.1) e)
-both_ok (Ok u) (Err f) x y h = apart (x, y) f h
-both_ok (Err f) s x y h = apart (x, y) f h
+both_ok (Ok u) (Err f) x y h = cc
+both_ok (Err f) s x y h = cc
 
 none_ok : (fs : List (List ℕ)) (u : Unit {0}) → no_number (arguments_of fs) ≡ Ok u → Writes [] fs
 none_ok [] u h = tt
-none_ok (a ∷ []) u h = apart u FieldCount h
-none_ok (a ∷ b ∷ []) u h = apart u FieldCount h
-none_ok (a ∷ b ∷ c ∷ fs) u h = apart u FieldCount h
+none_ok (a ∷ []) u h = cc
+none_ok (a ∷ b ∷ []) u h = cc
+none_ok (a ∷ b ∷ c ∷ fs) u h = cc
 
 one_ok : (limit : ℕ) (fs : List (List ℕ)) (n : ℕ) → one_number limit (arguments_of fs) ≡ Ok n → Writes ((limit, n) ∷ []) fs
-one_ok limit [] n h = apart n FieldCount h
+one_ok limit [] n h = cc
 one_ok limit (a ∷ []) n h = (in_line_ok 2 limit a n h, tt)
-one_ok limit (a ∷ b ∷ []) n h = apart n FieldCount h
-one_ok limit (a ∷ b ∷ c ∷ fs) n h = apart n FieldCount h
+one_ok limit (a ∷ b ∷ []) n h = cc
+one_ok limit (a ∷ b ∷ c ∷ fs) n h = cc
 
 pair_ok : (limit other : ℕ) (a b : List ℕ) (x y : ℕ) → both (in_line (read_field 2 limit a)) (in_line (read_field 3 other b)) ≡ Ok (x, y) → Writes ((limit, x) ∷ (other, y) ∷ []) (a ∷ b ∷ [])
 pair_ok limit other a b x y h = let p = both_ok (in_line (read_field 2 limit a)) (in_line (read_field 3 other b)) x y h in (in_line_ok 2 limit a x p.0, (in_line_ok 3 other b y p.1, tt))
 
 two_ok : (limit other : ℕ) (fs : List (List ℕ)) (x y : ℕ) → two_numbers limit other (arguments_of fs) ≡ Ok (x, y) → Writes ((limit, x) ∷ (other, y) ∷ []) fs
-two_ok limit other [] x y h = apart (x, y) FieldCount h
-two_ok limit other (a ∷ []) x y h = apart (x, y) FieldCount h
+two_ok limit other [] x y h = cc
+two_ok limit other (a ∷ []) x y h = cc
 two_ok limit other (a ∷ b ∷ []) x y h = pair_ok limit other a b x y h
-two_ok limit other (a ∷ b ∷ c ∷ fs) x y h = apart (x, y) FieldCount h
+two_ok limit other (a ∷ b ∷ c ∷ fs) x y h = cc
 
 -- what a line that was read by its letter is written of
 Found : Program → Letter → List (List ℕ) → Line → Type 0
@@ -120,22 +114,22 @@ found p k fs l m e h = subst (Found p k fs) e h
 
 share_found : (p : Program) (fs : List (List ℕ)) (l : Line) → share_of (arguments_of fs) ≡ Ok l → Found p Share fs l
 unfolding Found code_of
-share_found p [] l h = apart l FieldCount h
+share_found p [] l h = cc
 share_found p (a ∷ []) l h =
     let x = become_ok (line.Share None) (in_line (read_field 2 65535 a)) l h in
     found p Share (a ∷ []) l (line.Share None x.0) x.2 ((69, (65535, x.0) ∷ []), refl, refl, (in_line_ok 2 65535 a x.0 x.1, tt))
 share_found p (a ∷ b ∷ []) l h =
     let x = become_ok (λ q. line.Share (Some q.0) q.1) (both (in_line (read_field 2 65535 a)) (in_line (read_field 3 65535 b))) l h in
     found p Share (a ∷ b ∷ []) l (line.Share (Some x.0.0) x.0.1) x.2 ((69, (65535, x.0.0) ∷ (65535, x.0.1) ∷ []), refl, refl, pair_ok 65535 65535 a b x.0.0 x.0.1 x.1)
-share_found p (a ∷ b ∷ c ∷ fs) l h = apart l FieldCount h
+share_found p (a ∷ b ∷ c ∷ fs) l h = cc
 
 by_letter : (p : Program) (k : Letter) (fs : List (List ℕ)) (l : Line) → Has p k → line_by k (arguments_of fs) ≡ Ok l → Found p k fs l
 unfolding Found Has code_of
 by_letter Locate Map fs l has h = let x = become_ok (λ q. line.Map q.0 q.1) (two_numbers 31 4294967295 (arguments_of fs)) l h in found Locate Map fs l (line.Map x.0.0 x.0.1) x.2 ((77, (31, x.0.0) ∷ (4294967295, x.0.1) ∷ []), refl, refl, two_ok 31 4294967295 fs x.0.0 x.0.1 x.1)
-by_letter Lift Map fs l has h = none_known Map has
+by_letter Lift Map fs l has h = cc
 by_letter Locate Seed fs l has h = let x = become_ok line.Seed (one_number 4294967295 (arguments_of fs)) l h in found Locate Seed fs l (line.Seed x.0) x.2 ((71, (4294967295, x.0) ∷ []), refl, refl, one_ok 4294967295 fs x.0 x.1)
-by_letter Lift Seed fs l has h = none_known Seed has
-by_letter Locate Record fs l has h = none_known Record has
+by_letter Lift Seed fs l has h = cc
+by_letter Locate Record fs l has h = cc
 by_letter Lift Record fs l has h = let x = become_ok line.Record (one_number 4294967295 (arguments_of fs)) l h in found Lift Record fs l (line.Record x.0) x.2 ((68, (4294967295, x.0) ∷ []), refl, refl, one_ok 4294967295 fs x.0 x.1)
 by_letter p Start fs l has h = let x = become_ok line.Start (one_number 65535 (arguments_of fs)) l h in found p Start fs l (line.Start x.0) x.2 ((83, (65535, x.0) ∷ []), refl, refl, one_ok 65535 fs x.0 x.1)
 by_letter p Advance fs l has h = let x = become_ok line.Advance (one_number 255 (arguments_of fs)) l h in found p Advance fs l (line.Advance x.0) x.2 ((65, (255, x.0) ∷ []), refl, refl, one_ok 255 fs x.0 x.1)
@@ -146,18 +140,18 @@ by_letter p Path fs l has h = let x = become_ok line.Path (one_number 65535 (arg
 by_letter p Finish fs l has h = let x = become_ok (λ _. line.Finish) (no_number (arguments_of fs)) l h in found p Finish fs l line.Finish x.2 ((70, []), refl, refl, none_ok fs x.0 x.1)
 
 known_ok : (p : Program) (o : Option Letter) (fs : List (List ℕ)) (l : Line) → line_by_known o (arguments_of fs) ≡ Ok l → (k : Letter) × (o ≡ Some k) × (line_by k (arguments_of fs) ≡ Ok l)
-known_ok p None fs l h = apart l UnknownLetter h
+known_ok p None fs l h = cc
 known_ok p (Some k) fs l h = (k, refl, h)
 
 only_ok : (p : Program) (f : List ℕ) (k : Letter) → only_letter p f ≡ Some k → (f ≡ code_of k ∷ []) × Has p k
 unfolding Has
-only_ok p [] k h = none_known k h
+only_ok p [] k h = cc
 only_ok p (c ∷ []) k h = let e = letter_known p c k h in (ap (λ (x : ℕ). x ∷ []) e, sym (ap (letter_of p) e) ∙ h)
-only_ok p (c ∷ d ∷ cs) k h = none_known k h
+only_ok p (c ∷ d ∷ cs) k h = cc
 
 fields_ok : (p : Program) (fs : List (List ℕ)) (l : Line) → from_fields p fs ≡ Ok l → (w : Parts) × (ds : List (List ℕ)) × (parts_of p l ≡ Some w) × Writes w.1 ds × (fs ≡ (w.0 ∷ []) ∷ ds)
 unfolding Found
-fields_ok p [] l h = apart l UnknownLetter h
+fields_ok p [] l h = cc
 fields_ok p (f ∷ fs) l h =
     let k = known_ok p (only_letter p f) fs l h in
     let o = only_ok p f k.0 k.1 in
@@ -168,7 +162,7 @@ form_from_read : (p : Program) (bs : List ℕ) (l : Line) → line_of p bs ≡ O
 form_from_read p bs l h = go (ltb 100 (length bs)) refl h
   where
     go : (t : Bool) → ltb 100 (length bs) ≡ t → cond t (Err TooLong) (from_fields p (fields bs)) ≡ Ok l → Form p l bs
-    go true e g = apart l TooLong g
+    go true e g = cc
     go false e g =
         let x = fields_ok p (fields bs) l g in
         record { short = ltb-false 100 (length bs) e; parts = x.0; has = x.2; digits = x.1; numbers = x.3; text = sym (fields_join bs).0 ∙ ap (join_by 44) x.4 }
@@ -212,9 +206,6 @@ share_two lag code (a ∷ []) w = absurd w.1
 share_two lag code (a ∷ b ∷ []) w = ap (become (λ q. line.Share (Some q.0) q.1)) (pair_read 65535 65535 lag code a b w.0 w.1.0)
 share_two lag code (a ∷ b ∷ c ∷ fs) w = absurd w.1.1
 
-no_parts : {X : Type 0} (w : Parts) → ◌≡◌ {A = Option Parts} None (Some w) → X
-no_parts w h = let z : ◌≡◌ {A = ℕ} 0 1 = cc in absurd (omega arith)
-
 -- a line that is written of these parts is read, and its letter is no comma
 Read : Program → Line → List (List ℕ) → Parts → Type 0
 Read p l fs w = (w.0 ≡ 44 → ⊥) × (Writes w.1 fs → from_fields p ((w.0 ∷ []) ∷ fs) ≡ Ok l)
@@ -225,10 +216,10 @@ back p l fs v w h r = let e : v ≡ w = cc in subst (Read p l fs) e r
 read_parts : (p : Program) (l : Line) (fs : List (List ℕ)) (w : Parts) → parts_of p l ≡ Some w → Read p l fs w
 unfolding Read
 read_parts Locate (line.Map row bits) fs w h = back Locate _ fs (77, (31, row) ∷ (4294967295, bits) ∷ []) w h (eqb-false 77 44 refl, λ x. ap (become (λ q. line.Map q.0 q.1)) (two_read 31 4294967295 row bits fs x))
-read_parts Lift (line.Map row bits) fs w h = no_parts w h
+read_parts Lift (line.Map row bits) fs w h = cc
 read_parts Locate (line.Seed value) fs w h = back Locate _ fs (71, (4294967295, value) ∷ []) w h (eqb-false 71 44 refl, λ x. ap (become line.Seed) (one_read 4294967295 value fs x))
-read_parts Lift (line.Seed value) fs w h = no_parts w h
-read_parts Locate (line.Record value) fs w h = no_parts w h
+read_parts Lift (line.Seed value) fs w h = cc
+read_parts Locate (line.Record value) fs w h = cc
 read_parts Lift (line.Record value) fs w h = back Lift _ fs (68, (4294967295, value) ∷ []) w h (eqb-false 68 44 refl, λ x. ap (become line.Record) (one_read 4294967295 value fs x))
 read_parts p (line.Start count) fs w h = back p _ fs (83, (65535, count) ∷ []) w h (eqb-false 83 44 refl, λ x. ap (become line.Start) (one_read 65535 count fs x))
 read_parts p (line.Advance command) fs w h = back p _ fs (65, (255, command) ∷ []) w h (eqb-false 65 44 refl, λ x. ap (become line.Advance) (one_read 255 command fs x))

@@ -18,14 +18,11 @@ use Rattle.logs.specs.Lines.{letter_of, in_line, both, become, arguments_of, no_
 use Rattle.logs.proofs.Forming.{in_line_ok}
 use Rattle.logs.specs.Reasons.{limits_of, FaultHere, Leftmost, ReasonAfter, ReasonIn, Reason, FirstReason}
 
-granted : {X Y F : Type 0} (y : Y) (f : F) → ◌≡◌ {A = Result Y F} (Ok y) (Err f) → X
-granted y f h = let z : ◌≡◌ {A = ℕ} 0 1 = cc in absurd (omega arith)
-
 same_fault : {Y : Type 0} (f g : LineFault) → ◌≡◌ {A = Result Y LineFault} (Err f) (Err g) → f ≡ g
 same_fault f g h = cc
 
 become_err : {X : Type 0} (f : X → Line) (r : Result X LineFault) (e : LineFault) → become f r ≡ Err e → r ≡ Err e
-become_err f (Ok x) e h = granted (f x) e h
+become_err f (Ok x) e h = cc
 become_err f (Err g) e h = ap (λ (x : LineFault). Err x) (same_fault g e h)
 
 -- why fields with these limits, and no others, are refused
@@ -45,7 +42,7 @@ here k limit [] g h = let e : Empty k ≡ g = cc in subst (FaultHere limit k [])
 here k limit (b ∷ bs) g h = go (all_ascii_digits (b ∷ bs)) refl (leb (digits_value 10 (b ∷ bs)) limit) refl h
   where
     go : (s : Bool) → all_ascii_digits (b ∷ bs) ≡ s → (t : Bool) → leb (digits_value 10 (b ∷ bs)) limit ≡ t → cond s (cond t (Ok (digits_value 10 (b ∷ bs))) (Err (AboveLimit k))) (Err (NotDigit k)) ≡ Err g → FaultHere limit k (b ∷ bs) g
-    go true e true l x = granted (digits_value 10 (b ∷ bs)) g x
+    go true e true l x = cc
     go true e false l x = let same : AboveLimit k ≡ g = cc in subst (FaultHere limit k (b ∷ bs)) same (refl, omega arith, e, leb-false (digits_value 10 (b ∷ bs)) limit l)
     go false e t l x = let same : NotDigit k ≡ g = cc in subst (FaultHere limit k (b ∷ bs)) same (refl, omega arith, e)
 
@@ -54,7 +51,7 @@ in_line_err : (k limit : ℕ) (a : List ℕ) (f : LineFault) → in_line (read_f
 in_line_err k limit a f h = go (read_field k limit a) refl h
   where
     go : (r : Result ℕ FieldFault) → read_field k limit a ≡ r → in_line r ≡ Err f → (g : FieldFault) × (Field g ≡ f) × FaultHere limit k a g
-    go (Ok n) e x = granted n f x
+    go (Ok n) e x = cc
     go (Err g) e x = (g, same_fault (Field g) f x, here k limit a g e)
 
 -- the first fault of two fields
@@ -62,7 +59,7 @@ pair_err : (limit other : ℕ) (a b : List ℕ) (f : LineFault) → both (in_lin
 pair_err limit other a b f h = go (in_line (read_field 2 limit a)) refl (in_line (read_field 3 other b)) refl h
   where
     go : (r : Result ℕ LineFault) → in_line (read_field 2 limit a) ≡ r → (s : Result ℕ LineFault) → in_line (read_field 3 other b) ≡ s → both r s ≡ Err f → Why (limit ∷ other ∷ []) (a ∷ b ∷ []) f
-    go (Ok x) e (Ok y) d t = granted (x, y) f t
+    go (Ok x) e (Ok y) d t = cc
     go (Ok x) e (Err g) d t =
         let w = in_line_err 3 other b f (d ∙ ap (λ (z : LineFault). Err z) (same_fault g f t)) in
         field_fault (limit ∷ other ∷ []) (a ∷ b ∷ []) w.0 f w.1 refl (inr (x, in_line_ok 2 limit a x e, inl w.2))
@@ -74,7 +71,7 @@ only_err : (limit : ℕ) (a : List ℕ) (f : LineFault) → in_line (read_field 
 only_err limit a f h = let w = in_line_err 2 limit a f h in field_fault (limit ∷ []) (a ∷ []) w.0 f w.1 refl (inl w.2)
 
 none_err : (fs : List (List ℕ)) (f : LineFault) → no_number (arguments_of fs) ≡ Err f → Why [] fs f
-none_err [] f h = granted tt f h
+none_err [] f h = cc
 none_err (a ∷ []) f h = other_count [] (a ∷ []) f (same_fault FieldCount f h) (λ e. omega arith)
 none_err (a ∷ b ∷ []) f h = other_count [] (a ∷ b ∷ []) f (same_fault FieldCount f h) (λ e. omega arith)
 none_err (a ∷ b ∷ c ∷ fs) f h = other_count [] (a ∷ b ∷ c ∷ fs) f (same_fault FieldCount f h) (λ e. omega arith)

@@ -28,8 +28,7 @@ fn serve<M: Machine>(
     ensures within { InRow (length row.new) result }
 {
     let order = read_line(program, line)?;
-    let reply = machine.obey(order, row)?;
-    Ok(reply)
+    Ok(machine.obey(order, row)?)
 }
 
 // The reply with the codes that its count tells of.
