@@ -18,12 +18,9 @@ use Rattle.logs.specs.Lines.{letter_of, in_line, both, become, arguments_of, no_
 use Rattle.logs.proofs.Forming.{in_line_ok}
 use Rattle.logs.specs.Reasons.{limits_of, FaultHere, Leftmost, ReasonAfter, ReasonIn, Reason, FirstReason}
 
-same_fault : {Y : Type 0} (f g : LineFault) → ◌≡◌ {A = Result Y LineFault} (Err f) (Err g) → f ≡ g
-same_fault f g h = cc
-
 become_err : {X : Type 0} (f : X → Line) (r : Result X LineFault) (e : LineFault) → become f r ≡ Err e → r ≡ Err e
 become_err f (Ok x) e h = cc
-become_err f (Err g) e h = ap (λ (x : LineFault). Err x) (same_fault g e h)
+become_err f (Err g) e h = cc
 
 -- why fields with these limits, and no others, are refused
 Why : List ℕ → List (List ℕ) → LineFault → Type 0
@@ -52,7 +49,7 @@ in_line_err k limit a f h = go (read_field k limit a) refl h
   where
     go : (r : Result ℕ FieldFault) → read_field k limit a ≡ r → in_line r ≡ Err f → (g : FieldFault) × (Field g ≡ f) × FaultHere limit k a g
     go (Ok n) e x = cc
-    go (Err g) e x = (g, same_fault (Field g) f x, here k limit a g e)
+    go (Err g) e x = (g, cc, here k limit a g e)
 
 -- the first fault of two fields
 pair_err : (limit other : ℕ) (a b : List ℕ) (f : LineFault) → both (in_line (read_field 2 limit a)) (in_line (read_field 3 other b)) ≡ Err f → Why (limit ∷ other ∷ []) (a ∷ b ∷ []) f
@@ -61,10 +58,10 @@ pair_err limit other a b f h = go (in_line (read_field 2 limit a)) refl (in_line
     go : (r : Result ℕ LineFault) → in_line (read_field 2 limit a) ≡ r → (s : Result ℕ LineFault) → in_line (read_field 3 other b) ≡ s → both r s ≡ Err f → Why (limit ∷ other ∷ []) (a ∷ b ∷ []) f
     go (Ok x) e (Ok y) d t = cc
     go (Ok x) e (Err g) d t =
-        let w = in_line_err 3 other b f (d ∙ ap (λ (z : LineFault). Err z) (same_fault g f t)) in
+        let w = in_line_err 3 other b f (cc) in
         field_fault (limit ∷ other ∷ []) (a ∷ b ∷ []) w.0 f w.1 refl (inr (x, in_line_ok 2 limit a x e, inl w.2))
     go (Err g) e s d t =
-        let w = in_line_err 2 limit a f (e ∙ ap (λ (z : LineFault). Err z) (same_fault g f t)) in
+        let w = in_line_err 2 limit a f (cc) in
         field_fault (limit ∷ other ∷ []) (a ∷ b ∷ []) w.0 f w.1 refl (inl w.2)
 
 only_err : (limit : ℕ) (a : List ℕ) (f : LineFault) → in_line (read_field 2 limit a) ≡ Err f → Why (limit ∷ []) (a ∷ []) f
@@ -72,21 +69,21 @@ only_err limit a f h = let w = in_line_err 2 limit a f h in field_fault (limit �
 
 none_err : (fs : List (List ℕ)) (f : LineFault) → no_number (arguments_of fs) ≡ Err f → Why [] fs f
 none_err [] f h = cc
-none_err (a ∷ []) f h = other_count [] (a ∷ []) f (same_fault FieldCount f h) (λ e. omega arith)
-none_err (a ∷ b ∷ []) f h = other_count [] (a ∷ b ∷ []) f (same_fault FieldCount f h) (λ e. omega arith)
-none_err (a ∷ b ∷ c ∷ fs) f h = other_count [] (a ∷ b ∷ c ∷ fs) f (same_fault FieldCount f h) (λ e. omega arith)
+none_err (a ∷ []) f h = other_count [] (a ∷ []) f (cc) (λ e. omega arith)
+none_err (a ∷ b ∷ []) f h = other_count [] (a ∷ b ∷ []) f (cc) (λ e. omega arith)
+none_err (a ∷ b ∷ c ∷ fs) f h = other_count [] (a ∷ b ∷ c ∷ fs) f (cc) (λ e. omega arith)
 
 one_err : (limit : ℕ) (fs : List (List ℕ)) (f : LineFault) → one_number limit (arguments_of fs) ≡ Err f → Why (limit ∷ []) fs f
-one_err limit [] f h = other_count (limit ∷ []) [] f (same_fault FieldCount f h) (λ e. omega arith)
+one_err limit [] f h = other_count (limit ∷ []) [] f (cc) (λ e. omega arith)
 one_err limit (a ∷ []) f h = only_err limit a f h
-one_err limit (a ∷ b ∷ []) f h = other_count (limit ∷ []) (a ∷ b ∷ []) f (same_fault FieldCount f h) (λ e. omega arith)
-one_err limit (a ∷ b ∷ c ∷ fs) f h = other_count (limit ∷ []) (a ∷ b ∷ c ∷ fs) f (same_fault FieldCount f h) (λ e. omega arith)
+one_err limit (a ∷ b ∷ []) f h = other_count (limit ∷ []) (a ∷ b ∷ []) f (cc) (λ e. omega arith)
+one_err limit (a ∷ b ∷ c ∷ fs) f h = other_count (limit ∷ []) (a ∷ b ∷ c ∷ fs) f (cc) (λ e. omega arith)
 
 two_err : (limit other : ℕ) (fs : List (List ℕ)) (f : LineFault) → two_numbers limit other (arguments_of fs) ≡ Err f → Why (limit ∷ other ∷ []) fs f
-two_err limit other [] f h = other_count (limit ∷ other ∷ []) [] f (same_fault FieldCount f h) (λ e. omega arith)
-two_err limit other (a ∷ []) f h = other_count (limit ∷ other ∷ []) (a ∷ []) f (same_fault FieldCount f h) (λ e. omega arith)
+two_err limit other [] f h = other_count (limit ∷ other ∷ []) [] f (cc) (λ e. omega arith)
+two_err limit other (a ∷ []) f h = other_count (limit ∷ other ∷ []) (a ∷ []) f (cc) (λ e. omega arith)
 two_err limit other (a ∷ b ∷ []) f h = pair_err limit other a b f h
-two_err limit other (a ∷ b ∷ c ∷ fs) f h = other_count (limit ∷ other ∷ []) (a ∷ b ∷ c ∷ fs) f (same_fault FieldCount f h) (λ e. omega arith)
+two_err limit other (a ∷ b ∷ c ∷ fs) f h = other_count (limit ∷ other ∷ []) (a ∷ b ∷ c ∷ fs) f (cc) (λ e. omega arith)
 
 -- one of two forms
 first_form : (ls ms : List ℕ) (fs : List (List ℕ)) (f : LineFault) → (length ms ≡ length fs → ⊥) → Why ls fs f → ReasonAfter (ls ∷ ms ∷ []) fs f
@@ -108,10 +105,10 @@ neither : (ls ms : List ℕ) (fs : List (List ℕ)) (f : LineFault) → FieldCou
 neither ls ms fs f e p q = subst (ReasonAfter (ls ∷ ms ∷ []) fs) e (p, (q, tt))
 
 share_err : (fs : List (List ℕ)) (f : LineFault) → share_of (arguments_of fs) ≡ Err f → ReasonAfter (limits_of Share) fs f
-share_err [] f h = neither (65535 ∷ []) (65535 ∷ 65535 ∷ []) [] f (same_fault FieldCount f h) (λ e. omega arith) (λ e. omega arith)
+share_err [] f h = neither (65535 ∷ []) (65535 ∷ 65535 ∷ []) [] f (cc) (λ e. omega arith) (λ e. omega arith)
 share_err (a ∷ []) f h = first_form (65535 ∷ []) (65535 ∷ 65535 ∷ []) (a ∷ []) f (λ e. omega arith) (only_err 65535 a f (become_err (line.Share None) (in_line (read_field 2 65535 a)) f h))
 share_err (a ∷ b ∷ []) f h = second_form (65535 ∷ []) (65535 ∷ 65535 ∷ []) (a ∷ b ∷ []) f (λ e. omega arith) (pair_err 65535 65535 a b f (become_err (λ q. line.Share (Some q.0) q.1) (both (in_line (read_field 2 65535 a)) (in_line (read_field 3 65535 b))) f h))
-share_err (a ∷ b ∷ c ∷ fs) f h = neither (65535 ∷ []) (65535 ∷ 65535 ∷ []) (a ∷ b ∷ c ∷ fs) f (same_fault FieldCount f h) (λ e. omega arith) (λ e. omega arith)
+share_err (a ∷ b ∷ c ∷ fs) f h = neither (65535 ∷ []) (65535 ∷ 65535 ∷ []) (a ∷ b ∷ c ∷ fs) f (cc) (λ e. omega arith) (λ e. omega arith)
 
 by_letter : (k : Letter) (fs : List (List ℕ)) (f : LineFault) → line_by k (arguments_of fs) ≡ Err f → ReasonAfter (limits_of k) fs f
 unfolding Why
@@ -134,22 +131,22 @@ behind p c k fs FieldCount e r = record { code = c; letter = k; is = refl; known
 behind p c k fs (Field g) e r = record { code = c; letter = k; is = refl; known = e; reason = r }
 
 unknown : (p : Program) (first : List ℕ) (fs : List (List ℕ)) (f : LineFault) → only_letter p first ≡ None → UnknownLetter ≡ f → ReasonIn p first fs f
-unknown p first fs f none e = subst (ReasonIn p first fs) e (λ c k is known. let both : None ≡ Some k = sym none ∙ ap (only_letter p) is ∙ known in let z : ◌≡◌ {A = ℕ} 0 1 = cc in omega arith)
+unknown p first fs f none e = subst (ReasonIn p first fs) e (λ c k is known. let both : None ≡ Some k = sym none ∙ ap (only_letter p) is ∙ known in cc)
 
 in_fields : (p : Program) (first : List ℕ) (fs : List (List ℕ)) (f : LineFault) → from_fields p (first ∷ fs) ≡ Err f → ReasonIn p first fs f
-in_fields p [] fs f h = unknown p [] fs f refl (same_fault UnknownLetter f h)
-in_fields p (c ∷ d ∷ cs) fs f h = unknown p (c ∷ d ∷ cs) fs f refl (same_fault UnknownLetter f h)
+in_fields p [] fs f h = unknown p [] fs f refl (cc)
+in_fields p (c ∷ d ∷ cs) fs f h = unknown p (c ∷ d ∷ cs) fs f refl (cc)
 in_fields p (c ∷ []) fs f h = go (letter_of p c) refl h
   where
     go : (o : Option Letter) → letter_of p c ≡ o → line_by_known o (arguments_of fs) ≡ Err f → ReasonIn p (c ∷ []) fs f
-    go None e x = unknown p (c ∷ []) fs f e (same_fault UnknownLetter f x)
+    go None e x = unknown p (c ∷ []) fs f e (cc)
     go (Some k) e x = behind p c k fs f e (by_letter k fs f x)
 
 pub first_reason : FirstReason
 first_reason p bs f h = go (ltb 100 (length bs)) refl h
   where
     go : (t : Bool) → ltb 100 (length bs) ≡ t → cond t (Err TooLong) (from_fields p (fields bs)) ≡ Err f → Reason p bs f
-    go true e x = inl (sym (same_fault TooLong f x), ltb-true 100 (length bs) e)
+    go true e x = inl (cc, ltb-true 100 (length bs) e)
     go false e x =
         let split = fields_cut bs in
         inr (ltb-false 100 (length bs) e, front 44 bs, fields_in (after 44 bs), split, in_fields p (front 44 bs) (fields_in (after 44 bs)) f (sym (ap (from_fields p) split) ∙ x))
