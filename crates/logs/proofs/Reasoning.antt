@@ -1,5 +1,5 @@
 -- A line that is refused gets the first number that fits. Assumes nothing.
-use Rattle.std.proofs.Common.{◌≡◌, ℕ, Bool, true, false, cond, ltb, leb, List, [], ◌∷◌, length, Some, None, Ok, Err, Option, Result, sym, refl, ap, ◌∙◌, subst, inl, inr, arith, ltb-false, ltb-true, leb-false}
+use Rattle.std.proofs.Common.{◌≡◌, ℕ, zero, suc, Bool, true, false, cond, ltb, leb, List, [], ◌∷◌, length, Some, None, Ok, Err, Option, Result, sym, refl, ap, ◌∙◌, subst, inl, inr, arith, ltb-false, ltb-true, leb-false}
 use Rattle.std.specs.Str.Parse.{digits_value}
 use Rattle.std.specs.Str.{all_ascii_digits}
 use Rattle.fields.specs.declared.fault.FieldFault.{FieldFault}
@@ -32,7 +32,7 @@ other_count ls fs f e ne = subst (ReasonAfter (ls ∷ []) fs) e (ne, tt)
 
 field_fault : (ls : List ℕ) (fs : List (List ℕ)) (g : FieldFault) (f : LineFault) → Field g ≡ f → length ls ≡ length fs → Leftmost ls 2 fs g → Why ls fs f
 unfolding Why
-field_fault ls fs g f e long left = subst (ReasonAfter (ls ∷ []) fs) e (ls, inl refl, long, left)
+field_fault ls fs g f e long left = subst (ReasonAfter (ls ∷ []) fs) e (0, ls, omega arith, refl, (long, left))
 
 here : (k limit : ℕ) (bs : List ℕ) (g : FieldFault) → read_field k limit bs ≡ Err g → FaultHere limit k bs g
 here k limit [] g h = let e : Empty k ≡ g = cc in subst (FaultHere limit k []) e (refl, refl)
@@ -91,15 +91,15 @@ unfolding Why
 first_form ls ms fs TooLong ne w = w
 first_form ls ms fs UnknownLetter ne w = w
 first_form ls ms fs FieldCount ne w = (w.0, (ne, tt))
-first_form ls ms fs (Field g) ne (ns, inl e, long, left) = (ns, inl e, long, left)
-first_form ls ms fs (Field g) ne (ns, inr e, long, left) = absurd e
+first_form ls ms fs (Field g) ne (zero, ns, below, is, why) = (0, ns, omega arith, is, why)
+first_form ls ms fs (Field g) ne (suc k, ns, below, is, why) = absurd (omega arith)
 
 second_form : (ls ms : List ℕ) (fs : List (List ℕ)) (f : LineFault) → (length ls ≡ length fs → ⊥) → Why ms fs f → ReasonAfter (ls ∷ ms ∷ []) fs f
 unfolding Why
 second_form ls ms fs TooLong ne w = w
 second_form ls ms fs UnknownLetter ne w = w
 second_form ls ms fs FieldCount ne w = (ne, w)
-second_form ls ms fs (Field g) ne (ns, one, long, left) = (ns, inr one, long, left)
+second_form ls ms fs (Field g) ne (k, ns, below, is, why) = (suc k, ns, omega arith, is, why)
 
 neither : (ls ms : List ℕ) (fs : List (List ℕ)) (f : LineFault) → FieldCount ≡ f → (length ls ≡ length fs → ⊥) → (length ms ≡ length fs → ⊥) → ReasonAfter (ls ∷ ms ∷ []) fs f
 neither ls ms fs f e p q = subst (ReasonAfter (ls ∷ ms ∷ []) fs) e (p, (q, tt))

@@ -1,7 +1,7 @@
 -- Why a line is refused: the first reason that fits, with no word of how the line is read. Assumes nothing.
 use Rattle.std.specs.Prelude.{◌≡◌, ℕ, ◌+◌, ◌<◌, ◌≤◌, true, false, ◌⊎◌, List, [], ◌∷◌, length, Some, Err, ◌≢◌}
 use Rattle.std.specs.Str.Parse.{digits_value}
-use Rattle.std.specs.List.{AllByRecursion}
+use Rattle.std.specs.List.{AllByRecursion, Any}
 use Rattle.std.specs.Str.{all_ascii_digits}
 use Rattle.fields.specs.declared.fault.FieldFault.{FieldFault}
 use Rattle.fields.specs.declared.fault.FieldFault.TheVariants.{Empty, NotDigit, AboveLimit}
@@ -39,17 +39,12 @@ Leftmost [] k fs f = ⊥
 Leftmost (l ∷ ls) k [] f = ⊥
 Leftmost (l ∷ ls) k (a ∷ fs) f = FaultHere l k a f ⊎ ((n : ℕ) × Numeral l a n × Leftmost ls (k + 1) fs f)
 
--- one of the lists
-abbrev pub OneOf : List (List ℕ) → List ℕ → Type 0
-OneOf [] ls = ⊥
-OneOf (x ∷ xs) ls = (x ≡ ls) ⊎ OneOf xs ls
-
 -- why the fields after a letter that may have these limits are refused
 abbrev pub ReasonAfter : List (List ℕ) → List (List ℕ) → LineFault → Type 0
 ReasonAfter forms fs TooLong = ⊥
 ReasonAfter forms fs UnknownLetter = ⊥
 ReasonAfter forms fs FieldCount = AllByRecursion (λ ls. length ls ≢ length fs) forms
-ReasonAfter forms fs (Field f) = (ls : List ℕ) × OneOf forms ls × (length ls ≡ length fs) × Leftmost ls 2 fs f
+ReasonAfter forms fs (Field f) = Any (λ ls. (length ls ≡ length fs) × Leftmost ls 2 fs f) forms
 
 -- the first field is not one letter of the program
 abbrev pub NoLetter : Program → List ℕ → Type 0
