@@ -1,6 +1,7 @@
 -- The lines that a program reads. Assumes nothing.
 use Rattle.std.specs.Prelude.{ℕ, cond, List, [], ◌∷◌, length, Some, None, Ok, Err, Option, Result, ◌==◌, nat_lt}
 use Rattle.std.specs.Borrow.{Bor}
+use Rattle.std.specs.Result.{result_map_both}
 use Rattle.fields.specs.declared.fault.FieldFault.{FieldFault}
 use Rattle.logs.specs.declared.fault.LineFault.{LineFault}
 use Rattle.logs.specs.declared.fault.LineFault.TheVariants.{TooLong, UnknownLetter, FieldCount, Field}
@@ -39,8 +40,7 @@ letter_of p c =
 
 -- a field's fault, carried whole
 abbrev pub in_line : {X : Type 0} → Result X FieldFault → Result X LineFault
-in_line (Ok x) = Ok x
-in_line (Err f) = Err (Field f)
+in_line r = result_map_both (λ x. x) (λ f. Field f) r
 
 -- the second number is read where the first was
 abbrev pub both : {X Y : Type 0} → Result X LineFault → Result Y LineFault → Result (X × Y) LineFault
@@ -49,8 +49,7 @@ both (Ok x) (Err f) = Err f
 both (Err e) r = Err e
 
 abbrev pub become : {X : Type 0} → (X → Line) → Result X LineFault → Result Line LineFault
-become f (Ok x) = Ok (f x)
-become f (Err e) = Err e
+become f r = result_map_both f (λ e. e) r
 
 abbrev pub map_arguments : {X Y : Type 0} → (X → Y) → Arguments X → Arguments Y
 map_arguments f Zero = Zero

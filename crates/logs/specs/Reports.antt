@@ -1,5 +1,7 @@
 -- The bytes of a report. Assumes nothing.
 use Rattle.std.specs.Prelude.{◌≡◌, ℕ, ◌≤◌, List, [], ◌∷◌, ◌++◌, Some, None, Ok, Err, codes, decimal, Option, Result}
+use Rattle.std.specs.Option.{option_map}
+use Rattle.std.specs.Result.{result_map_both}
 use Rattle.logs.specs.declared.fault.RunFault.{RunFault}
 use Rattle.logs.specs.declared.reply.Reply.{Reply}
 use Rattle.logs.specs.declared.reply.Reply.TheVariants.{Started, Advanced, Weighed, Resampled, Shared, Path, Finished}
@@ -56,9 +58,7 @@ abbrev pub codes_of : AfterCommas → List ℕ
 codes_of c = c.0.now
 
 abbrev pub viewed : {X Y E : Type 0} → (X → Y) → Result (Option (Reply X)) E → Result (Option (Reply Y)) E
-viewed f (Ok None) = Ok None
-viewed f (Ok (Some r)) = Ok (Some (map_reply f r))
-viewed f (Err e) = Err e
+viewed f r = result_map_both (option_map (map_reply f)) (λ e. e) r
 
 -- a path's count is within a row of n numbers
 abbrev pub InReply : ℕ → Reply ℕ → Type 0

@@ -1,5 +1,6 @@
 -- The report of a log, by what a machine means. Assumes nothing.
 use Rattle.std.specs.Prelude.{ℕ, ◌+◌, cond, List, [], ◌∷◌, ◌++◌, length, Ok, Err, Option, Result, nat_lt}
+use Rattle.std.specs.Result.{result_map_both}
 use Rattle.refusals.specs.declared.Refusal.{Refusal}
 use Rattle.logs.specs.declared.fault.LineFault.{LineFault}
 use Rattle.logs.specs.declared.fault.RunFault.{RunFault}
@@ -16,8 +17,7 @@ Told = Option (Reply (List ℕ))
 
 -- a refusal of the machine, carried whole
 abbrev pub in_run : {X : Type 0} → Result X Refusal → Result X RunFault
-in_run (Ok x) = Ok x
-in_run (Err r) = Err (fault.Call r)
+in_run r = result_map_both (λ x. x) (λ e. fault.Call e) r
 
 module _ {S : Type 0} (obeys : S → Line → S × Result Told Refusal) where
   abbrev pub obeyed : S → Result Line LineFault → S × Result Told RunFault
