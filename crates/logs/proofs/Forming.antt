@@ -9,7 +9,7 @@ use Rattle.fields.specs.Laws.{join_by, Lacks}
 use Rattle.fields.proofs.Exact.{numeral_from_read, read_from_numeral, digits_lack}
 use Rattle.fields.proofs.Joining.{fields_join, fields_alone}
 use Rattle.logs.specs.declared.fault.LineFault.{LineFault}
-use Rattle.logs.specs.declared.fault.LineFault.TheVariants.{TooLong, UnknownLetter, FieldCount, Field}
+use Rattle.logs.specs.declared.fault.LineFault.TheVariants.{TooLong}
 use Rattle.logs.specs.declared.line.Program.{Program}
 use Rattle.logs.specs.declared.line.Program.TheVariants.{Locate, Lift}
 use Rattle.logs.specs.declared.line.Letter.{Letter}
@@ -109,35 +109,33 @@ two_ok limit other (a ∷ b ∷ c ∷ fs) x y h = cc
 Found : Program → Letter → List (List ℕ) → Line → Type 0
 Found p k fs l = (w : Parts) × (parts_of p l ≡ Some w) × (w.0 ≡ code_of k) × Writes w.1 fs
 
-found : (p : Program) (k : Letter) (fs : List (List ℕ)) (l m : Line) → m ≡ l → Found p k fs m → Found p k fs l
-found p k fs l m e h = subst (Found p k fs) e h
+-- a line that was made of what was read, and is written of the parts w
+wrote : {X : Type 0} (p : Program) (k : Letter) (fs : List (List ℕ)) (l : Line) (f : X → Line) (r : Result X LineFault) (w : X → Parts) → become f r ≡ Ok l → ((x : X) → parts_of p (f x) ≡ Some (w x)) → ((x : X) → (w x).0 ≡ code_of k) → ((x : X) → r ≡ Ok x → Writes (w x).1 fs) → Found p k fs l
+unfolding Found
+wrote p k fs l f r w h has code writes = let x = become_ok f r l h in subst (Found p k fs) x.2 (w x.0, has x.0, code x.0, writes x.0 x.1)
 
 share_found : (p : Program) (fs : List (List ℕ)) (l : Line) → share_of (arguments_of fs) ≡ Ok l → Found p Share fs l
-unfolding Found code_of
+unfolding code_of
 share_found p [] l h = cc
-share_found p (a ∷ []) l h =
-    let x = become_ok (line.Share None) (in_line (read_field 2 65535 a)) l h in
-    found p Share (a ∷ []) l (line.Share None x.0) x.2 ((69, (65535, x.0) ∷ []), refl, refl, (in_line_ok 2 65535 a x.0 x.1, tt))
-share_found p (a ∷ b ∷ []) l h =
-    let x = become_ok (λ q. line.Share (Some q.0) q.1) (both (in_line (read_field 2 65535 a)) (in_line (read_field 3 65535 b))) l h in
-    found p Share (a ∷ b ∷ []) l (line.Share (Some x.0.0) x.0.1) x.2 ((69, (65535, x.0.0) ∷ (65535, x.0.1) ∷ []), refl, refl, pair_ok 65535 65535 a b x.0.0 x.0.1 x.1)
+share_found p (a ∷ []) l h = wrote p Share (a ∷ []) l (line.Share None) _ (λ n. (69, (65535, n) ∷ [])) h (λ n. refl) (λ n. refl) (λ n e. (in_line_ok 2 65535 a n e, tt))
+share_found p (a ∷ b ∷ []) l h = wrote p Share (a ∷ b ∷ []) l (λ q. line.Share (Some q.0) q.1) _ (λ q. (69, (65535, q.0) ∷ (65535, q.1) ∷ [])) h (λ q. refl) (λ q. refl) (λ q e. pair_ok 65535 65535 a b q.0 q.1 e)
 share_found p (a ∷ b ∷ c ∷ fs) l h = cc
 
 by_letter : (p : Program) (k : Letter) (fs : List (List ℕ)) (l : Line) → Has p k → line_by k (arguments_of fs) ≡ Ok l → Found p k fs l
-unfolding Found Has code_of
-by_letter Locate Map fs l has h = let x = become_ok (λ q. line.Map q.0 q.1) (two_numbers 31 4294967295 (arguments_of fs)) l h in found Locate Map fs l (line.Map x.0.0 x.0.1) x.2 ((77, (31, x.0.0) ∷ (4294967295, x.0.1) ∷ []), refl, refl, two_ok 31 4294967295 fs x.0.0 x.0.1 x.1)
+unfolding Has code_of
+by_letter Locate Map fs l has h = wrote Locate Map fs l (λ q. line.Map q.0 q.1) _ (λ q. (77, (31, q.0) ∷ (4294967295, q.1) ∷ [])) h (λ q. refl) (λ q. refl) (λ q e. two_ok 31 4294967295 fs q.0 q.1 e)
 by_letter Lift Map fs l has h = cc
-by_letter Locate Seed fs l has h = let x = become_ok line.Seed (one_number 4294967295 (arguments_of fs)) l h in found Locate Seed fs l (line.Seed x.0) x.2 ((71, (4294967295, x.0) ∷ []), refl, refl, one_ok 4294967295 fs x.0 x.1)
+by_letter Locate Seed fs l has h = wrote Locate Seed fs l line.Seed _ (λ n. (71, (4294967295, n) ∷ [])) h (λ n. refl) (λ n. refl) (one_ok 4294967295 fs)
 by_letter Lift Seed fs l has h = cc
 by_letter Locate Record fs l has h = cc
-by_letter Lift Record fs l has h = let x = become_ok line.Record (one_number 4294967295 (arguments_of fs)) l h in found Lift Record fs l (line.Record x.0) x.2 ((68, (4294967295, x.0) ∷ []), refl, refl, one_ok 4294967295 fs x.0 x.1)
-by_letter p Start fs l has h = let x = become_ok line.Start (one_number 65535 (arguments_of fs)) l h in found p Start fs l (line.Start x.0) x.2 ((83, (65535, x.0) ∷ []), refl, refl, one_ok 65535 fs x.0 x.1)
-by_letter p Advance fs l has h = let x = become_ok line.Advance (one_number 255 (arguments_of fs)) l h in found p Advance fs l (line.Advance x.0) x.2 ((65, (255, x.0) ∷ []), refl, refl, one_ok 255 fs x.0 x.1)
-by_letter p Weigh fs l has h = let x = become_ok line.Weigh (one_number 255 (arguments_of fs)) l h in found p Weigh fs l (line.Weigh x.0) x.2 ((87, (255, x.0) ∷ []), refl, refl, one_ok 255 fs x.0 x.1)
-by_letter p Resample fs l has h = let x = become_ok (λ _. line.Resample) (no_number (arguments_of fs)) l h in found p Resample fs l line.Resample x.2 ((82, []), refl, refl, none_ok fs x.0 x.1)
+by_letter Lift Record fs l has h = wrote Lift Record fs l line.Record _ (λ n. (68, (4294967295, n) ∷ [])) h (λ n. refl) (λ n. refl) (one_ok 4294967295 fs)
+by_letter p Start fs l has h = wrote p Start fs l line.Start _ (λ n. (83, (65535, n) ∷ [])) h (λ n. refl) (λ n. refl) (one_ok 65535 fs)
+by_letter p Advance fs l has h = wrote p Advance fs l line.Advance _ (λ n. (65, (255, n) ∷ [])) h (λ n. refl) (λ n. refl) (one_ok 255 fs)
+by_letter p Weigh fs l has h = wrote p Weigh fs l line.Weigh _ (λ n. (87, (255, n) ∷ [])) h (λ n. refl) (λ n. refl) (one_ok 255 fs)
+by_letter p Resample fs l has h = wrote p Resample fs l (λ _. line.Resample) _ (λ u. (82, [])) h (λ u. refl) (λ u. refl) (none_ok fs)
 by_letter p Share fs l has h = share_found p fs l h
-by_letter p Path fs l has h = let x = become_ok line.Path (one_number 65535 (arguments_of fs)) l h in found p Path fs l (line.Path x.0) x.2 ((80, (65535, x.0) ∷ []), refl, refl, one_ok 65535 fs x.0 x.1)
-by_letter p Finish fs l has h = let x = become_ok (λ _. line.Finish) (no_number (arguments_of fs)) l h in found p Finish fs l line.Finish x.2 ((70, []), refl, refl, none_ok fs x.0 x.1)
+by_letter p Path fs l has h = wrote p Path fs l line.Path _ (λ n. (80, (65535, n) ∷ [])) h (λ n. refl) (λ n. refl) (one_ok 65535 fs)
+by_letter p Finish fs l has h = wrote p Finish fs l (λ _. line.Finish) _ (λ u. (70, [])) h (λ u. refl) (λ u. refl) (none_ok fs)
 
 known_ok : (p : Program) (o : Option Letter) (fs : List (List ℕ)) (l : Line) → line_by_known o (arguments_of fs) ≡ Ok l → (k : Letter) × (o ≡ Some k) × (line_by k (arguments_of fs) ≡ Ok l)
 known_ok p None fs l h = cc

@@ -106,22 +106,22 @@ neither ls ms fs f e p q = subst (ReasonAfter (ls ∷ ms ∷ []) fs) e (p, (q, t
 
 share_err : (fs : List (List ℕ)) (f : LineFault) → share_of (arguments_of fs) ≡ Err f → ReasonAfter (limits_of Share) fs f
 share_err [] f h = neither (65535 ∷ []) (65535 ∷ 65535 ∷ []) [] f (cc) (λ e. omega arith) (λ e. omega arith)
-share_err (a ∷ []) f h = first_form (65535 ∷ []) (65535 ∷ 65535 ∷ []) (a ∷ []) f (λ e. omega arith) (only_err 65535 a f (become_err (line.Share None) (in_line (read_field 2 65535 a)) f h))
-share_err (a ∷ b ∷ []) f h = second_form (65535 ∷ []) (65535 ∷ 65535 ∷ []) (a ∷ b ∷ []) f (λ e. omega arith) (pair_err 65535 65535 a b f (become_err (λ q. line.Share (Some q.0) q.1) (both (in_line (read_field 2 65535 a)) (in_line (read_field 3 65535 b))) f h))
+share_err (a ∷ []) f h = first_form (65535 ∷ []) (65535 ∷ 65535 ∷ []) (a ∷ []) f (λ e. omega arith) (only_err 65535 a f (become_err (line.Share None) _ f h))
+share_err (a ∷ b ∷ []) f h = second_form (65535 ∷ []) (65535 ∷ 65535 ∷ []) (a ∷ b ∷ []) f (λ e. omega arith) (pair_err 65535 65535 a b f (become_err (λ q. line.Share (Some q.0) q.1) _ f h))
 share_err (a ∷ b ∷ c ∷ fs) f h = neither (65535 ∷ []) (65535 ∷ 65535 ∷ []) (a ∷ b ∷ c ∷ fs) f (cc) (λ e. omega arith) (λ e. omega arith)
 
 by_letter : (k : Letter) (fs : List (List ℕ)) (f : LineFault) → line_by k (arguments_of fs) ≡ Err f → ReasonAfter (limits_of k) fs f
 unfolding Why
-by_letter Map fs f h = two_err 31 4294967295 fs f (become_err (λ q. line.Map q.0 q.1) (two_numbers 31 4294967295 (arguments_of fs)) f h)
-by_letter Seed fs f h = one_err 4294967295 fs f (become_err line.Seed (one_number 4294967295 (arguments_of fs)) f h)
-by_letter Record fs f h = one_err 4294967295 fs f (become_err line.Record (one_number 4294967295 (arguments_of fs)) f h)
-by_letter Start fs f h = one_err 65535 fs f (become_err line.Start (one_number 65535 (arguments_of fs)) f h)
-by_letter Advance fs f h = one_err 255 fs f (become_err line.Advance (one_number 255 (arguments_of fs)) f h)
-by_letter Weigh fs f h = one_err 255 fs f (become_err line.Weigh (one_number 255 (arguments_of fs)) f h)
-by_letter Resample fs f h = none_err fs f (become_err (λ _. line.Resample) (no_number (arguments_of fs)) f h)
+by_letter Map fs f h = two_err 31 4294967295 fs f (become_err (λ q. line.Map q.0 q.1) _ f h)
+by_letter Seed fs f h = one_err 4294967295 fs f (become_err line.Seed _ f h)
+by_letter Record fs f h = one_err 4294967295 fs f (become_err line.Record _ f h)
+by_letter Start fs f h = one_err 65535 fs f (become_err line.Start _ f h)
+by_letter Advance fs f h = one_err 255 fs f (become_err line.Advance _ f h)
+by_letter Weigh fs f h = one_err 255 fs f (become_err line.Weigh _ f h)
+by_letter Resample fs f h = none_err fs f (become_err (λ _. line.Resample) _ f h)
 by_letter Share fs f h = share_err fs f h
-by_letter Path fs f h = one_err 65535 fs f (become_err line.Path (one_number 65535 (arguments_of fs)) f h)
-by_letter Finish fs f h = none_err fs f (become_err (λ _. line.Finish) (no_number (arguments_of fs)) f h)
+by_letter Path fs f h = one_err 65535 fs f (become_err line.Path _ f h)
+by_letter Finish fs f h = none_err fs f (become_err (λ _. line.Finish) _ f h)
 
 -- the reason behind a known letter
 behind : (p : Program) (c : ℕ) (k : Letter) (fs : List (List ℕ)) (f : LineFault) → letter_of p c ≡ Some k → ReasonAfter (limits_of k) fs f → ReasonIn p (c ∷ []) fs f
