@@ -1,8 +1,8 @@
 // Reading one line.
-ghost use Rattle.std.specs.Prelude.{◌≡◌, ◌≤◌, IfOk, Ok};
+ghost use Rattle.std.specs.Prelude.{◌≡◌};
 ghost use Rattle.std.specs.Option.{option_map};
 ghost use Rattle.fields.specs.Cuts.{fields_in};
-ghost use Rattle.logs.specs.Lines.{only_letter, texts, arguments_of, no_number, one_number, two_numbers, share_of, line_by, line_of};
+ghost use Rattle.logs.specs.Lines.{only_letter, texts, arguments_of, line_by, line_of};
 
 use crate::fault::LineFault;
 use crate::line::{Arguments, Letter, Line, Program};
