@@ -1,5 +1,5 @@
 -- The ways through an advance.
-use Rattle.std.proofs.Common.{◌≡◌, ℕ, ◌+◌, ◌<◌, ◌≤◌, true, false, leb, List, [], ◌∷◌, length, get_or, take, Some, None, sum_by, Option, sym, refl, ap, ◌∙◌, subst, arith}
+use Rattle.std.proofs.Common.{◌≡◌, ℕ, ◌+◌, ◌<◌, ◌≤◌, true, false, leb, List, [], ◌∷◌, length, get_or, Some, None, sum_by, Option, sym, refl, ap, ◌∙◌, subst, arith}
 use mathlib.Core.Logic.{∥∥₁_map, ∥∥₁_elim}
 use native.Mathlib.Bridge.{le_prop}
 use Rattle.std.proofs.ByRecursion.{All-get_or}
@@ -37,7 +37,7 @@ use Rattle.cloud.proofs.Keeping.{free_represented}
 
 -- the cloud one round on, once its tree is so
 abbrev pub advanced_view : {S : Type 0} → View S → List (Node S) → Option ℕ → ℕ → List ℕ → View S
-advanced_view v nodes head free tips = record { nodes = nodes; head = head; free = free; tips = tips; n = v.n; weights = v.weights; holds = v.holds; phase = v.phase; round = v.round + 1; stamp = v.stamp }
+advanced_view v nodes head free tips = record { nodes = nodes; head = head; free = free; tips = tips; weights = v.weights; holds = v.holds; phase = v.phase; round = v.round + 1; stamp = v.stamp }
 
 pub not_level : (p : Phase) → (p ≡ Level → ⊥) → is_level p ≡ false
 not_level Empty h = refl
@@ -54,13 +54,13 @@ round_small {S} v s living = ∥∥₁_elim s le_prop (λ (node, f, h).
     omega (arith, long, few, h.sound.in_use_within_room, h.room, h.round, h.tree.few, length-links v.nodes))
 
 -- what moves ask of the tree
-pub advance_map : {S : Type 0} (v : View S) → SomeFilter v → SomeMapAll (links v.nodes) v.head v.free (take v.n v.tips)
+pub advance_map : {S : Type 0} (v : View S) → SomeFilter v → SomeMapAll (links v.nodes) v.head v.free v.tips
 advance_map v s = ∥∥₁_map s (λ (node, f, h). (
   (λ k. sum_by (λ o. is_named o k) v.holds),
   h.serial,
   node,
   f.issued,
-  tree_same (links v.nodes) v.head v.free (named v.tips v.n v.holds) (λ k. sum_by (λ o. is_named o k) v.holds + sum_by (is_node k) (take v.n v.tips)) h.serial f.issued (λ k. omega arith) h.tree,
+  tree_same (links v.nodes) v.head v.free (named v.tips v.holds) (λ k. sum_by (λ o. is_named o k) v.holds + sum_by (is_node k) v.tips) h.serial f.issued (λ k. omega arith) h.tree,
   h.inverse,
 ))
 
@@ -81,24 +81,27 @@ module _ {S : Type 0} (m : Meaning S) (c : ℕ) (v : View S) (q : Supply) where
       past_command : (node : ℕ → ℕ) (f : Filter S) → Represents node v f → refusal m f (advance c) ≡ unless (leb (length f.paths) (free f)) NoNodesLeft (unless (f.source.can (length f.paths)) SourceDry None)
       past_command node f h = past_phase node f h ∙ ap (λ t. unless t Unknown (unless (leb (length f.paths) (free f)) NoNodesLeft (unless (f.source.can (length f.paths)) SourceDry None))) known
 
-      pub advance_no_nodes : v.free < v.n → Follows m (advance c) (refused NoNodesLeft) v q v q
+      pub advance_no_nodes : v.free < length v.tips → Follows m (advance c) (refused NoNodesLeft) v q v q
       advance_no_nodes few node f h src =
           let b : leb (length f.paths) (free f) ≡ false = lt-leb (length f.paths) (free f) (omega (arith, free_represented node v f h, h.number)) in
           taken_refused m (advance c) v q node f NoNodesLeft h src (past_command node f h ∙ ap (λ t. unless t NoNodesLeft (unless (f.source.can (length f.paths)) SourceDry None)) b)
 
-      module _ (room : v.n ≤ v.free) where
-        past_nodes : (node : ℕ → ℕ) (f : Filter S) → Represents node v f → f.source ≡ q → refusal m f (advance c) ≡ unless (q.can v.n) SourceDry None
+      module _ (room : length v.tips ≤ v.free) where
+        past_nodes : (node : ℕ → ℕ) (f : Filter S) → Represents node v f → f.source ≡ q → refusal m f (advance c) ≡ unless (q.can (length v.tips)) SourceDry None
         past_nodes node f h src =
             let b : leb (length f.paths) (free f) ≡ true = le-leb (length f.paths) (free f) (omega (arith, free_represented node v f h, h.number)) in
             past_command node f h ∙ ap (λ t. unless t NoNodesLeft (unless (f.source.can (length f.paths)) SourceDry None)) b
             ∙ ap (λ (s : Supply). unless (s.can (length f.paths)) SourceDry None) src ∙ ap (λ k. unless (q.can k) SourceDry None) h.number
 
-        pub advance_dry : q.can v.n ≡ false → Follows m (advance c) (refused SourceDry) v q v q
+        pub advance_dry : q.can (length v.tips) ≡ false → Follows m (advance c) (refused SourceDry) v q v q
         advance_dry cannot node f h src = taken_refused m (advance c) v q node f SourceDry h src (past_nodes node f h src ∙ ap (λ t. unless t SourceDry None) cannot)
 
-        -- an advance that is granted
-        module _ (can : q.can v.n ≡ true) (v' : View S) (q' : Supply) (fit : length v'.tips ≡ 256) (high : v.n ≤ 256) (en : v'.n ≡ v.n) (eh : v'.holds ≡ v.holds) (ep : v'.phase ≡ Level) (er : v'.round ≡ v.round + 1) (es : v'.stamp ≡ v.stamp) (ef : v'.free + v.n ≡ v.free) (eq : q' ≡ after v.n q)
-            (law : (w serial node : ℕ → ℕ) (issued : ℕ) → Tree (links v.nodes) v.head v.free (λ k. w k + sum_by (is_node k) (take v.n v.tips)) serial issued → Inverse (links v.nodes) serial node → Moved (links v.nodes) (links v'.nodes) (states v.nodes) (states v'.nodes) v'.head v'.free v.tips v'.tips (λ k s. m.move s c (q.to_come k)) v.n v.n w serial node issued) where
+        -- an advance that is granted: the nodes, their first free one, how many are free, and the tips
+        module _ (can : q.can (length v.tips) ≡ true) (nodes : List (Node S)) (head : Option ℕ) (left : ℕ) (tips : List ℕ) (q' : Supply) (en : length tips ≡ length v.tips) (ef : left + length v.tips ≡ v.free) (eq : q' ≡ after (length v.tips) q)
+            (law : (w serial node : ℕ → ℕ) (issued : ℕ) → Tree (links v.nodes) v.head v.free (λ k. w k + sum_by (is_node k) v.tips) serial issued → Inverse (links v.nodes) serial node → Moved (links v.nodes) (links nodes) (states v.nodes) (states nodes) head left v.tips tips (λ k s. m.move s c (q.to_come k)) (length v.tips) w serial node issued) where
+          abbrev v' : View S
+          v' = advanced_view v nodes head left tips
+
           module _ (node : ℕ → ℕ) (f : Filter S) (h : Represents node v f) (src : f.source ≡ q) where
             open_call : refusal m f (advance c) ≡ None
             open_call = past_nodes node f h src ∙ ap (λ t. unless t SourceDry None) can
@@ -106,22 +109,22 @@ module _ {S : Type 0} (m : Meaning S) (c : ℕ) (v : View S) (q : Supply) where
             held : ℕ → ℕ
             held k = sum_by (λ o. is_named o k) v.holds
 
-            split : Tree (links v.nodes) v.head v.free (λ k. held k + sum_by (is_node k) (take v.n v.tips)) h.serial f.issued
+            split : Tree (links v.nodes) v.head v.free (λ k. held k + sum_by (is_node k) v.tips) h.serial f.issued
             unfolding held
-            split = tree_same (links v.nodes) v.head v.free (named v.tips v.n v.holds) (λ k. sum_by (λ o. is_named o k) v.holds + sum_by (is_node k) (take v.n v.tips)) h.serial f.issued (λ k. omega arith) h.tree
+            split = tree_same (links v.nodes) v.head v.free (named v.tips v.holds) (λ k. sum_by (λ o. is_named o k) v.holds + sum_by (is_node k) v.tips) h.serial f.issued (λ k. omega arith) h.tree
 
-            got : Moved (links v.nodes) (links v'.nodes) (states v.nodes) (states v'.nodes) v'.head v'.free v.tips v'.tips (λ k s. m.move s c (q.to_come k)) v.n v.n held h.serial node f.issued
+            got : Moved (links v.nodes) (links v'.nodes) (states v.nodes) (states v'.nodes) v'.head v'.free v.tips v'.tips (λ k s. m.move s c (q.to_come k)) (length v.tips) held h.serial node f.issued
             got = law held h.serial node f.issued split h.inverse
 
             same_nodes : length v'.nodes ≡ length v.nodes
             same_nodes = sym (length-links v'.nodes) ∙ got.size ∙ length-links v.nodes
 
-            longer_track : (i : ℕ) (p : PathOf S) → i < v.n → Track (links v.nodes) (states v.nodes) h.serial (Some (get_or v.tips i 0)) p → Track (links v'.nodes) (states v'.nodes) got.serial' (Some (get_or v'.tips i 0)) (longer m f c i p)
+            longer_track : (i : ℕ) (p : PathOf S) → i < length v.tips → Track (links v.nodes) (states v.nodes) h.serial (Some (get_or v.tips i 0)) p → Track (links v'.nodes) (states v'.nodes) got.serial' (Some (get_or v'.tips i 0)) (longer m f c i p)
             longer_track i [] l r = absurd (let z : ◌≡◌ {A = ℕ} 0 1 = cc in omega arith)
             longer_track i (x ∷ p) l r =
                 subst (λ (s : Supply). Track (links v'.nodes) (states v'.nodes) got.serial' (Some (get_or v'.tips i 0)) (record { state = m.move x.state c (s.to_come i); serial = f.issued + i } ∷ x ∷ p)) (sym src) (got.longer i x p l r)
 
-            path_at : (i : ℕ) → i < v.n → get_or (all_longer m f c 0 f.paths) i [] ≡ longer m f c i (get_or f.paths i [])
+            path_at : (i : ℕ) → i < length v.tips → get_or (all_longer m f c 0 f.paths) i [] ≡ longer m f c i (get_or f.paths i [])
             path_at i l = getD_longer m f c 0 f.paths i (omega (arith, h.number)) ∙ ap (λ j. longer m f c j (get_or f.paths i [])) (let z : 0 + i ≡ i = omega arith in z)
 
             advanced : Represents got.node' v' (granted m f (advance c) 0)
@@ -129,38 +132,36 @@ module _ {S : Type 0} (m : Meaning S) (c : ℕ) (v : View S) (q : Supply) where
             advanced = record {
               sound = sound_granted m f h.sound (advance c) 0 open_call;
               serial = got.serial';
-              tree = subst (λ k. Tree (links v'.nodes) v'.head v'.free (named v'.tips v'.n v'.holds) got.serial' (f.issued + k)) (sym h.number)
-                  (tree_same (links v'.nodes) v'.head v'.free (λ k. held k + sum_by (is_node k) (take v.n v'.tips)) (named v'.tips v'.n v'.holds) got.serial' (f.issued + v.n)
-                  (λ k. let a = ap (λ j. sum_by (is_node k) (take j v'.tips)) en in let b = ap (sum_by (λ o. is_named o k)) eh in omega (arith, a, b)) got.tree);
+              tree = subst (λ k. Tree (links v'.nodes) v'.head v'.free (named v'.tips v'.holds) got.serial' (f.issued + k)) (sym h.number)
+                  (tree_same (links v'.nodes) v'.head v'.free (λ k. held k + sum_by (is_node k) v'.tips) (named v'.tips v'.holds) got.serial' (f.issued + length v.tips)
+                  (λ k. omega arith) got.tree);
               inverse = got.inverse;
-              fit = omega arith;
               number = length-longer m f c 0 f.paths ∙ h.number ∙ sym en;
               paths_are = λ i l.
-                  let l2 : i < v.n = omega arith in
+                  let l2 : i < length v.tips = omega arith in
                   subst (λ p. Track (links v'.nodes) (states v'.nodes) got.serial' (Some (get_or v'.tips i 0)) p) (sym (path_at i l2)) (longer_track i (get_or f.paths i []) l2 (h.paths_are i l2));
-              sixteen = ap length eh ∙ h.sixteen;
+              sixteen = h.sixteen;
               places_are = λ j l.
                   let l2 : j < length v.holds = omega (arith, h.sixteen) in
-                  subst (λ hs. Alike (links v'.nodes) (states v'.nodes) got.serial' (get_or hs j None) (get_or f.places j None)) (sym eh)
-                  (alike_stays (links v.nodes) (links v'.nodes) (states v.nodes) (states v'.nodes) h.serial got.serial' (get_or v.holds j None) (get_or f.places j None)
-                  (λ k p e r. got.stays (Some k) p (λ x y. let z : k ≡ x = cc in subst (λ a. 0 < sum_by (λ o. is_named o a) v.holds) z (let pe = place_named v.tips 0 v.holds j k l2 e in omega (arith, pe))) r)
-                  (h.places_are j l));
-              phase = sym ep;
-              round = ap (λ k. k + 1) h.round ∙ sym er;
-              stamp = h.stamp ∙ sym es;
+                  alike_stays (links v.nodes) (links v'.nodes) (states v.nodes) (states v'.nodes) h.serial got.serial' (get_or v.holds j None) (get_or f.places j None)
+                  (λ k p e r. got.stays (Some k) p (λ x y. let z : k ≡ x = cc in subst (λ a. 0 < sum_by (λ o. is_named o a) v.holds) z (let pe = place_named [] v.holds j k l2 e in omega (arith, pe))) r)
+                  (h.places_are j l);
+              phase = sym level_now;
+              round = ap (λ k. k + 1) h.round;
+              stamp = h.stamp;
               room = h.room ∙ sym same_nodes;
-              weights = λ e. absurd (level_not_weighed (sym ep ∙ e));
+              weights = λ e. absurd (level_not_weighed (sym level_now ∙ e));
             }
 
-          pub advance_granted : Follows m (advance c) (done v.n 0 nothing) v q v' q'
-          advance_granted node f h src =
+          pub advance_granted : (n : ℕ) → n ≡ length v.tips → Follows m (advance c) (done n 0 nothing) v q v' q'
+          advance_granted n many node f h src =
               let g = got node f h src in
-              let a = in_use_represented node v f h.fit h in
-              let b = in_use_represented g.node' v' (granted m f (advance c) 0) (advanced node f h src).fit (advanced node f h src) in
+              let a = in_use_represented node v f h in
+              let b = in_use_represented g.node' v' (granted m f (advance c) 0) (advanced node f h src) in
               let len = same_nodes node f h src in
-              taken_granted m (advance c) v q node f v.n 0 nothing v' q' g.node' (open_call node f h src) tt (advanced node f h src)
-              (ap (λ k. after k f.source) h.number ∙ ap (after v.n) src ∙ sym eq)
-              (sym h.number)
+              taken_granted m (advance c) v q node f n 0 nothing v' q' g.node' (open_call node f h src) tt (advanced node f h src)
+              (ap (λ k. after k f.source) h.number ∙ ap (after (length v.tips)) src ∙ sym eq)
+              (many ∙ sym h.number)
               (omega (arith, a, b, len, ef))
               refl
               (record { kept = g.older; new = λ s l l2. seen_free v.nodes (g.node' s) (g.fresh s l (omega (arith, h.number))) })

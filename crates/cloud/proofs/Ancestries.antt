@@ -87,7 +87,7 @@ run_ancestry S m brought stamp q₀ lawful ts node v q led =
     let g : Genealogy m f₀ ts = genealogy S m brought stamp q₀ lawful ts led.told in
     record {
       nodes_in_use_are_those_on_paths = sh;
-      nodes_in_use_are_issued_less_freed = omega (arith, seen_count v.nodes, h.tree.whole, in_use_represented node v f h.fit h, length-links v.nodes, g.nodes_in_use_are_issued_less_freed);
+      nodes_in_use_are_issued_less_freed = omega (arith, seen_count v.nodes, h.tree.whole, in_use_represented node v f h, length-links v.nodes, g.nodes_in_use_are_issued_less_freed);
       every_node_in_use_was_made = λ n x z.
           let r = sh.no_other_node_is_in_use n x z in
           let k = find (λ p. Descends m q₀.to_come (makings ts) p × OnNodes v.nodes node p) (λ y u p t. (t.0.1, t.1.1)) r.0 (all_paths f)

@@ -1,11 +1,10 @@
 -- As many serials are in use in the filter as nodes in the tree.
-use Rattle.std.proofs.Common.{◌≡◌, ℕ, zero, suc, ◌+◌, ◌<◌, ◌≤◌, Bool, true, false, ◌||◌, eqb, List, [], ◌∷◌, ◌++◌, map, length, get_or, take, Some, None, sum_by, Option, sym, refl, ap, ◌∙◌, subst, inl, inr, ⊎_elim, arith}
+use Rattle.std.proofs.Common.{◌≡◌, ℕ, zero, suc, ◌+◌, ◌<◌, ◌≤◌, Bool, true, false, ◌||◌, eqb, List, [], ◌∷◌, ◌++◌, map, length, get_or, Some, None, sum_by, Option, sym, refl, ap, ◌∙◌, subst, inl, inr, ⊎_elim, arith}
 use Rattle.std.specs.List.{AllByRecursion}
 use Rattle.std.proofs.ByRecursion.{All-append}
 use Rattle.std.proofs.lemmas.Bool.Decides.{eqb_tells}
 use Rattle.std.proofs.lemmas.List.Sums.{sum_by-cons}
 use Rattle.std.proofs.lemmas.Bool.{cases_eq, cases_lt, cases_Bool, or_left, or_right, eq-eqb, false≢true, or_cases}
-use Rattle.std.proofs.lemmas.List.{get_or-take, length-take-le}
 use Rattle.filter.specs.Filters.{PathOf, Filter}
 use Rattle.filter.specs.Uses.{opened, all_paths, serials, member, different, in_use}
 use Rattle.filter.proofs.Counts.{one_if, count, different_is, member_append}
@@ -21,7 +20,7 @@ use Rattle.cloud.proofs.Naming.{particle_named, place_named}
 use Rattle.cloud.proofs.Exactness.{trees_are_exact, parent_used}
 use Rattle.cloud.proofs.Serials.{serials_count_nodes, sign_zero, sign_one}
 
-none_some : {A : Type 0} {x : A} → None ≡ Some x → ⊥
+pub none_some : {A : Type 0} {x : A} → None ≡ Some x → ⊥
 none_some e = let z : ◌≡◌ {A = ℕ} 0 1 = cc in omega arith
 
 -- a sum above 0 has an element above 0
@@ -127,7 +126,7 @@ module _ {S : Type 0} (ls : List Link) (ss : List S) (head : Option ℕ) (free :
       (λ ne. or_right _ _ (track_chain (link_at ls m).parent P fs r (subst (λ j. Chain ls (link_at ls j).parent fs) (sym z) c) n (omega (arith, is_node_other n f ne))))
       (cases_eq n f)
 
-module _ {S : Type 0} (node : ℕ → ℕ) (v : View S) (f : Filter S) (small : v.n ≤ length v.tips) (h : Represents node v f) where
+module _ {S : Type 0} (node : ℕ → ℕ) (v : View S) (f : Filter S) (h : Represents node v f) where
   place_open : (a : Option ℕ) (b : Option (PathOf S)) (p : PathOf S) → b ≡ Some p → Alike (links v.nodes) (states v.nodes) h.serial a b → (r : ℕ) × (a ≡ Some r) × Track (links v.nodes) (states v.nodes) h.serial (Some r) p
   place_open None None p e x = absurd (none_some e)
   place_open None (Some q) p e x = absurd x
@@ -139,36 +138,35 @@ module _ {S : Type 0} (node : ℕ → ℕ) (v : View S) (f : Filter S) (small : 
   open_place (Some n) None r e x = absurd x
   open_place (Some n) (Some q) r e x = let z : n ≡ r = cc in (q, refl, subst (λ y. Track (links v.nodes) (states v.nodes) h.serial (Some y) q) z x)
 
-  particle_w : (i : ℕ) → i < v.n → 0 < named v.tips v.n v.holds (get_or v.tips i 0)
-  particle_w i l = particle_named v.tips v.n v.holds i small l
+  particle_w : (i : ℕ) → i < length v.tips → 0 < named v.tips v.holds (get_or v.tips i 0)
+  particle_w i l = particle_named v.tips v.holds i l
 
-  pub all_tracked : AllByRecursion (Tracked (links v.nodes) (states v.nodes) v.head v.free (named v.tips v.n v.holds) h.serial f.issued h.tree) (all_paths f)
+  pub all_tracked : AllByRecursion (Tracked (links v.nodes) (states v.nodes) v.head v.free (named v.tips v.holds) h.serial f.issued h.tree) (all_paths f)
   unfolding Tracked
   all_tracked = All-append _ f.paths (opened f.places)
-      (each_getD _ [] f.paths (λ i l. let l2 : i < v.n = omega (arith, h.number) in (get_or v.tips i 0, particle_w i l2, h.paths_are i l2)))
+      (each_getD _ [] f.paths (λ i l. let l2 : i < length v.tips = omega (arith, h.number) in (get_or v.tips i 0, particle_w i l2, h.paths_are i l2)))
       (each_opened _ f.places (λ q l p e.
       let l2 : q < length v.holds = omega (arith, h.sixteen, h.sound.sixteen_places) in
       let r = place_open (get_or v.holds q None) (get_or f.places q None) p e (h.places_are q (omega (arith, h.sixteen))) in
-      (r.0, place_named v.tips v.n v.holds q r.0 l2 r.1, r.2)))
+      (r.0, place_named v.tips v.holds q r.0 l2 r.1, r.2)))
 
   pub serial_in : (k : ℕ) → k < length (links v.nodes) → 0 < (link_at (links v.nodes) k).count → member (h.serial k) (serials (all_paths f)) ≡ true
   serial_in k l c =
-      let x = (trees_are_exact (links v.nodes) v.head v.free (named v.tips v.n v.holds) h.serial f.issued h.tree k l).0 c in
+      let x = (trees_are_exact (links v.nodes) v.head v.free (named v.tips v.holds) h.serial f.issued h.tree k l).0 c in
       let r : ℕ = x.0 in
       let go : (P : PathOf S) → Track (links v.nodes) (states v.nodes) h.serial (Some r) P → member (h.serial k) (map (λ y. y.serial) P) ≡ true
-      = λ P tr. track_chain (links v.nodes) (states v.nodes) v.head v.free (named v.tips v.n v.holds) h.serial f.issued h.tree (Some r) P x.1 tr x.3 k x.4 in
+      = λ P tr. track_chain (links v.nodes) (states v.nodes) v.head v.free (named v.tips v.holds) h.serial f.issued h.tree (Some r) P x.1 tr x.3 k x.4 in
       ⊎_elim
       (λ a.
-      let m = sum-pick (is_node r) 0 (take v.n v.tips) a in
-      let lm : m.0 < v.n = omega (arith, m.1, length-take-le v.n v.tips small) in
-      let e : r ≡ get_or v.tips m.0 0 = is_node_eq r _ m.2 ∙ get_or-take v.n v.tips m.0 0 lm in
-      left_of (h.serial k) f.paths (opened f.places) (in_path (h.serial k) f.paths m.0 (omega (arith, h.number)) (go (get_or f.paths m.0 []) (subst (λ y. Track (links v.nodes) (states v.nodes) h.serial (Some y) (get_or f.paths m.0 [])) (sym e) (h.paths_are m.0 lm)))))
+      let m = sum-pick (is_node r) 0 v.tips a in
+      let e : r ≡ get_or v.tips m.0 0 = is_node_eq r _ m.2 in
+      left_of (h.serial k) f.paths (opened f.places) (in_path (h.serial k) f.paths m.0 (omega (arith, m.1, h.number)) (go (get_or f.paths m.0 []) (subst (λ y. Track (links v.nodes) (states v.nodes) h.serial (Some y) (get_or f.paths m.0 [])) (sym e) (h.paths_are m.0 m.1)))))
       (λ a.
       let m = sum-pick (λ o. is_named o r) None v.holds (omega (arith, x.2)) in
       let e = is_named_eq (get_or v.holds m.0 None) r m.2 in
       let p = open_place (get_or v.holds m.0 None) (get_or f.places m.0 None) r e (h.places_are m.0 (omega (arith, m.1, h.sixteen))) in
       right_of (h.serial k) f.paths (opened f.places) (in_place (h.serial k) f.places m.0 p.0 p.1 (go p.0 p.2)))
-      (cases_lt 0 (sum_by (is_node r) (take v.n v.tips)))
+      (cases_lt 0 (sum_by (is_node r) v.tips))
 
   -- the number of nodes in use is that of different serials
   pub in_use_represented : in_use f + v.free ≡ length v.nodes
@@ -176,11 +174,11 @@ module _ {S : Type 0} (node : ℕ → ℕ) (v : View S) (f : Filter S) (small : 
   in_use_represented =
       let ls : List Link = links v.nodes in
       let all : List ℕ = serials (all_paths f) in
-      let back = serial_live (links v.nodes) (states v.nodes) v.head v.free (named v.tips v.n v.holds) h.serial f.issued h.tree (all_paths f) all_tracked in
+      let back = serial_live (links v.nodes) (states v.nodes) v.head v.free (named v.tips v.holds) h.serial f.issued h.tree (all_paths f) all_tracked in
       let low : (k : ℕ) → member k (serials (all_paths f)) ≡ true → k < f.issued
       = λ k m. let b = back k m in subst (λ x. x < f.issued) b.3 (h.tree.past b.0 b.1 b.2) in
       let c = list_count (serials (all_paths f)) f.issued low in
       let seen : (k : ℕ) → 0 < one_if (member k (serials (all_paths f))) → member k (serials (all_paths f)) ≡ true
       = λ k q. ⊎_elim (λ e. e) (λ e. absurd (let z : one_if (member k (serials (all_paths f))) ≡ 0 = ap one_if e in omega (arith, z))) (cases_Bool (member k (serials (all_paths f)))) in
-      let a = serials_count_nodes (links v.nodes) v.head v.free (named v.tips v.n v.holds) h.serial f.issued (λ k. one_if (member k (serials (all_paths f)))) h.tree (λ k q. back k (seen k q)) (λ n l q. let e : one_if (member (h.serial n) (serials (all_paths f))) ≡ 1 = ap one_if (serial_in n l q) in omega (arith, e)) in
+      let a = serials_count_nodes (links v.nodes) v.head v.free (named v.tips v.holds) h.serial f.issued (λ k. one_if (member k (serials (all_paths f)))) h.tree (λ k q. back k (seen k q)) (λ n l q. let e : one_if (member (h.serial n) (serials (all_paths f))) ≡ 1 = ap one_if (serial_in n l q) in omega (arith, e)) in
       omega (arith, a, c, length-links v.nodes)

@@ -1,5 +1,5 @@
 -- The ways through a finish.
-use Rattle.std.proofs.Common.{◌≡◌, ℕ, ◌+◌, ◌<◌, List, length, get_or, take, Some, None, sum_by, Option, sym, refl, ap, ◌∙◌, subst, arith}
+use Rattle.std.proofs.Common.{◌≡◌, ℕ, ◌+◌, ◌<◌, List, [], length, get_or, Some, None, sum_by, Option, sym, refl, ap, ◌∙◌, subst, arith}
 use mathlib.Core.Logic.{∥∥₁_map}
 use Rattle.refusals.specs.declared.Refusal.TheVariants.{WrongPhase}
 use Rattle.sources.specs.Supplies.{Supply}
@@ -24,35 +24,38 @@ use Rattle.cloud.proofs.Stepping.{taken_refused, taken_granted, stay_all, alike_
 use Rattle.cloud.proofs.Keeping.{living, freed_by, same_nodes, same_links, track_on}
 
 -- the cloud with no particle, once its tree is so
-abbrev pub finished_view : {S : Type 0} → View S → List (Node S) → Option ℕ → ℕ → View S
-finished_view v nodes head free = record { nodes = nodes; head = head; free = free; tips = v.tips; n = 0; weights = v.weights; holds = v.holds; phase = Empty; round = v.round; stamp = v.stamp }
+abbrev pub finished_view : {S : Type 0} → View S → List (Node S) → Option ℕ → ℕ → List ℕ → View S
+finished_view v nodes head free tips = record { nodes = nodes; head = head; free = free; tips = tips; weights = v.weights; holds = v.holds; phase = Empty; round = v.round; stamp = v.stamp }
 
 -- the particles' nodes are named
-pub finish_named : {S : Type 0} (v : View S) → SomeFilter v → (j : ℕ) → j ≡ v.n → SomeTreeAll (links v.nodes) v.head v.free (take j v.tips)
-finish_named v s j e = subst (λ i. SomeTreeAll (links v.nodes) v.head v.free (take i v.tips)) (sym e) (∥∥₁_map s (λ (node, f, h). (
+pub finish_named : {S : Type 0} (v : View S) → SomeFilter v → SomeTreeAll (links v.nodes) v.head v.free v.tips
+finish_named v s = ∥∥₁_map s (λ (node, f, h). (
   (λ k. sum_by (λ o. is_named o k) v.holds),
   h.serial,
   f.issued,
-  tree_same (links v.nodes) v.head v.free (named v.tips v.n v.holds) (λ k. sum_by (λ o. is_named o k) v.holds + sum_by (is_node k) (take v.n v.tips)) h.serial f.issued (λ k. omega arith) h.tree,
-)))
+  tree_same (links v.nodes) v.head v.free (named v.tips v.holds) (λ k. sum_by (λ o. is_named o k) v.holds + sum_by (is_node k) v.tips) h.serial f.issued (λ k. omega arith) h.tree,
+))
 
 module _ {S : Type 0} (m : Meaning S) (q : Supply) (v : View S) where
   pub finish_wrong_phase : v.phase ≡ Empty → Follows m finish (refused WrongPhase) v q v q
   finish_wrong_phase e node f h src = taken_refused m finish v q node f WrongPhase h src (ap (λ p. unless (is_living p) WrongPhase None) (h.phase ∙ e))
 
-  module _ (v' : View S) (freed j : ℕ) (ej : j ≡ v.n) (en : v'.n ≡ 0) (eh : v'.holds ≡ v.holds) (ep : v'.phase ≡ Empty) (er : v'.round ≡ v.round) (es : v'.stamp ≡ v.stamp) (ef : v'.free ≡ v.free + freed)
-      (kept : states v'.nodes ≡ states v.nodes) (frame : Kept (links v.nodes) (links v'.nodes))
-      (law : (w serial : ℕ → ℕ) (issued : ℕ) → Tree (links v.nodes) v.head v.free (λ k. w k + sum_by (is_node k) (take j v.tips)) serial issued → Tree (links v'.nodes) v'.head v'.free w serial issued)
+  -- a finish that is granted: the nodes, their first free one, how many are free, and the tips
+  module _ (nodes : List (Node S)) (head : Option ℕ) (left : ℕ) (tips : List ℕ) (freed : ℕ) (et : tips ≡ []) (ef : left ≡ v.free + freed) (kept : states nodes ≡ states v.nodes) (frame : Kept (links v.nodes) (links nodes))
+      (law : (w serial : ℕ → ℕ) (issued : ℕ) → Tree (links v.nodes) v.head v.free (λ k. w k + sum_by (is_node k) v.tips) serial issued → Tree (links nodes) head left w serial issued)
       (some_way : v.phase ≡ Empty → ⊥) where
+    abbrev v' : View S
+    v' = finished_view v nodes head left tips
+
     module _ (node : ℕ → ℕ) (f : Filter S) (h : Represents node v f) where
       open_call : refusal m f finish ≡ None
       open_call = ap (λ p. unless (is_living p) WrongPhase None) h.phase ∙ ap (λ t. unless t WrongPhase None) (living v.phase some_way)
 
-      new_tree : Tree (links v'.nodes) v'.head v'.free (named v'.tips v'.n v'.holds) h.serial f.issued
-      new_tree = tree_same (links v'.nodes) v'.head v'.free (λ k. sum_by (λ o. is_named o k) v.holds) (named v'.tips v'.n v'.holds) h.serial f.issued
-          (λ k. let a : sum_by (is_node k) (take v'.n v'.tips) ≡ 0 = ap (λ i. sum_by (is_node k) (take i v'.tips)) en in let b = ap (sum_by (λ o. is_named o k)) eh in omega (arith, a, b))
+      new_tree : Tree (links v'.nodes) v'.head v'.free (named v'.tips v'.holds) h.serial f.issued
+      new_tree = tree_same (links v'.nodes) v'.head v'.free (λ k. sum_by (λ o. is_named o k) v.holds) (named v'.tips v'.holds) h.serial f.issued
+          (λ k. let a : sum_by (is_node k) tips ≡ 0 = ap (sum_by (is_node k)) et in omega arith)
           (law (λ k. sum_by (λ o. is_named o k) v.holds) h.serial f.issued
-          (tree_same (links v.nodes) v.head v.free (named v.tips v.n v.holds) (λ k. sum_by (λ o. is_named o k) v.holds + sum_by (is_node k) (take j v.tips)) h.serial f.issued (λ k. let a = ap (λ i. sum_by (is_node k) (take i v.tips)) ej in omega (arith, a)) h.tree))
+          (tree_same (links v.nodes) v.head v.free (named v.tips v.holds) (λ k. sum_by (λ o. is_named o k) v.holds + sum_by (is_node k) v.tips) h.serial f.issued (λ k. omega arith) h.tree))
 
       finished : Represents node v' (granted m f finish 0)
       finished = record {
@@ -60,22 +63,19 @@ module _ {S : Type 0} (m : Meaning S) (q : Supply) (v : View S) where
         serial = h.serial;
         tree = new_tree;
         inverse = λ k l c. h.inverse k (omega (arith, same_links v v' kept frame)) (frame k c).0;
-        fit = omega arith;
-        number = sym en;
-        paths_are = λ i l. absurd (omega arith);
-        sixteen = ap length eh ∙ h.sixteen;
+        number = sym (ap length et);
+        paths_are = λ i l. absurd (omega (arith, ap length et));
+        sixteen = h.sixteen;
         places_are = λ i l.
             let l2 : i < length v.holds = omega (arith, h.sixteen) in
-            let l3 : i < length v'.holds = omega (arith, ap length eh) in
-            subst (λ hs. Alike (links v'.nodes) (states v'.nodes) h.serial (get_or hs i None) (get_or f.places i None)) (sym eh)
-            (alike_stays (links v.nodes) (links v'.nodes) (states v.nodes) (states v'.nodes) h.serial h.serial (get_or v.holds i None) (get_or f.places i None)
-            (λ k p e r. track_on v v' kept frame h.serial f.issued k p h.tree new_tree (place_named v.tips v.n v.holds i k l2 e) (place_named v'.tips v'.n v'.holds i k l3 (subst (λ hs. get_or hs i None ≡ Some k) (sym eh) e)) r)
-            (h.places_are i l));
-        phase = sym ep;
-        round = h.round ∙ sym er;
-        stamp = h.stamp ∙ sym es;
+            alike_stays (links v.nodes) (links v'.nodes) (states v.nodes) (states v'.nodes) h.serial h.serial (get_or v.holds i None) (get_or f.places i None)
+            (λ k p e r. track_on v v' kept frame h.serial f.issued k p h.tree new_tree (place_named v.tips v.holds i k l2 e) (place_named tips v.holds i k l2 e) r)
+            (h.places_are i l);
+        phase = refl;
+        round = h.round;
+        stamp = h.stamp;
         room = h.room ∙ sym (same_nodes v v' kept frame);
-        weights = λ e. absurd (empty_not_weighed (sym ep ∙ e));
+        weights = λ e. absurd (empty_not_weighed e);
       }
 
     pub finish_granted : Follows m finish (done 0 freed nothing) v q v' q

@@ -12,8 +12,8 @@ use Rattle.cloud.specs.Promises.{LedTo, Follows, Steps, GoesOn, then_turn}
 use Rattle.cloud.proofs.Stepping.{steps_of}
 use Rattle.cloud.proofs.Ancestries.{run_ancestry}
 
-pub goes_on : {S : Type 0} (k : Kind S) (m : Meaning S) (call : Call) (told : Reply) (v v' : View S) (q q' : Supply) → Steps k m call told v q v' q' → GoesOn k m call told v q v' q'
-goes_on {S} k m call told v v' q q' steps law brought stamp q₀ lawful ts node led =
+pub goes_on : {S : Type 0} (k : Kind S) {m : Meaning S} {call : Call} {told : Reply} {v v' : View S} {q q' : Supply} → Steps k m call told v q v' q' → GoesOn k m call told v q v' q'
+goes_on {S} k {m} {call} {told} {v} {v'} {q} {q'} steps law brought stamp q₀ lawful ts node led =
     let f₀ : Filter S = fresh brought stamp q₀ in
     let t = (steps law node (reached m f₀ ts) led.represents (run_states S k m law brought stamp q₀ lawful ts) led.source).0 in
     let next : LedTo m f₀ (then_turn call told ts) t.node' v' q' = record { told = (led.told, t.tells); represents = t.represents; source = t.source } in
@@ -25,5 +25,5 @@ goes_on {S} k m call told v v' q q' steps law brought stamp q₀ lawful ts node 
     }
 
 -- both promises of a call that every filter follows
-pub promised : {S : Type 0} (k : Kind S) (m : Meaning S) (call : Call) (told : Reply) (v v' : View S) (q q' : Supply) → Follows m call told v q v' q' → Steps k m call told v q v' q' × GoesOn k m call told v q v' q'
-promised k m call told v v' q q' go = let s = steps_of k m call told v v' q q' go in (s, goes_on k m call told v v' q q' s)
+pub promised : {S : Type 0} (k : Kind S) {m : Meaning S} {call : Call} {told : Reply} {v v' : View S} {q q' : Supply} → Follows m call told v q v' q' → Steps k m call told v q v' q' × GoesOn k m call told v q v' q'
+promised k {m} {call} {told} {v} {v'} {q} {q'} go = let s = steps_of k m call told v v' q q' go in (s, goes_on k s)

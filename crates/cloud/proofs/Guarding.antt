@@ -67,7 +67,7 @@ module _ {S : Type 0} (m m' : Meaning S) (call : Call) (told : Reply) (v v' : Vi
     stay = subst (λ (g : Filter S). Stay v node t.node' f.issued g.issued) same_step t.stay;
   }
 
-module _ {S : Type 0} (k : Kind S) (m : Meaning S) (told : Reply) (v v' : View S) (q q' : Supply) where
+module _ {S : Type 0} (k : Kind S) (m : Meaning S) {told : Reply} {v v' : View S} {q q' : Supply} where
   pub advance_guarded : (c : ℕ) → m.commands c ≡ true → Follows (guarded k m) (advance c) told v q v' q' → Steps k m (advance c) told v q v' q'
   advance_guarded c known go law node f h kind src = (
     taken_same (guarded k m) m (advance c) told v v' q' node f refl (advance_same k m f c known (told_place told) kind) refl (go node f h src),

@@ -24,8 +24,8 @@ living Weighed h = refl
 -- how many nodes are freed, by how many are free
 pub freed_by : {S : Type 0} (node node' : ℕ → ℕ) (v v' : View S) (f f' : Filter S) (d : ℕ) → Represents node v f → Represents node' v' f' → length v'.nodes ≡ length v.nodes → v'.free ≡ v.free + d → d ≡ freed f f'
 freed_by node node' v v' f f' d h h' size e =
-    let a = in_use_represented node v f h.fit h in
-    let b = in_use_represented node' v' f' h'.fit h' in
+    let a = in_use_represented node v f h in
+    let b = in_use_represented node' v' f' h' in
     omega arith
 
 -- nothing new is in use, and the states stay
@@ -36,11 +36,11 @@ module _ {S : Type 0} (v v' : View S) (kept : states v'.nodes ≡ states v.nodes
   pub same_links : length (links v'.nodes) ≡ length (links v.nodes)
   same_links = length-links v'.nodes ∙ same_nodes ∙ sym (length-links v.nodes)
 
-  pub track_on : (serial : ℕ → ℕ) (issued k : ℕ) (p : PathOf S) → Tree (links v.nodes) v.head v.free (named v.tips v.n v.holds) serial issued → Tree (links v'.nodes) v'.head v'.free (named v'.tips v'.n v'.holds) serial issued → 0 < named v.tips v.n v.holds k → 0 < named v'.tips v'.n v'.holds k → Track (links v.nodes) (states v.nodes) serial (Some k) p → Track (links v'.nodes) (states v'.nodes) serial (Some k) p
+  pub track_on : (serial : ℕ → ℕ) (issued k : ℕ) (p : PathOf S) → Tree (links v.nodes) v.head v.free (named v.tips v.holds) serial issued → Tree (links v'.nodes) v'.head v'.free (named v'.tips v'.holds) serial issued → 0 < named v.tips v.holds k → 0 < named v'.tips v'.holds k → Track (links v.nodes) (states v.nodes) serial (Some k) p → Track (links v'.nodes) (states v'.nodes) serial (Some k) p
   track_on serial issued k p t t' a b r = subst (λ us. Track (links v'.nodes) us serial (Some k) p) (sym kept)
-      (kept_stays (links v.nodes) (links v'.nodes) (states v.nodes) v.head v'.head v.free v'.free (named v.tips v.n v.holds) (named v'.tips v'.n v'.holds) serial issued t t' same_links frame (Some k) p
-      (λ x e. let z : k ≡ x = cc in subst (λ y. 0 < named v.tips v.n v.holds y) z a) (λ x e. let z : k ≡ x = cc in subst (λ y. 0 < named v'.tips v'.n v'.holds y) z b) r)
+      (kept_stays (links v.nodes) (links v'.nodes) (states v.nodes) v.head v'.head v.free v'.free (named v.tips v.holds) (named v'.tips v'.holds) serial issued t t' same_links frame (Some k) p
+      (λ x e. let z : k ≡ x = cc in subst (λ y. 0 < named v.tips v.holds y) z a) (λ x e. let z : k ≡ x = cc in subst (λ y. 0 < named v'.tips v'.holds y) z b) r)
 
 -- the free nodes are as many as the filter has
 pub free_represented : {S : Type 0} (node : ℕ → ℕ) (v : View S) (f : Filter S) → Represents node v f → free f ≡ v.free
-free_represented node v f h = let a = in_use_represented node v f h.fit h in omega (arith, h.room)
+free_represented node v f h = let a = in_use_represented node v f h in omega (arith, h.room)

@@ -9,7 +9,7 @@ use Rattle.filter.proofs.Grants.{empty_not_weighed}
 use Rattle.filter.proofs.Sounds.{fresh_sound}
 use Rattle.cloud.specs.declared.node.Node.{Node}
 use Rattle.cloud.specs.Links.{links, states}
-use Rattle.cloud.specs.Trees.{is_named, Tree}
+use Rattle.cloud.specs.Trees.{is_node, is_named, Tree}
 use Rattle.cloud.specs.Tracks.{named}
 use Rattle.cloud.specs.Representations.{View, Alike, Represents, SomeFilter}
 use Rattle.cloud.specs.Promises.{LedTo, Begins}
@@ -41,7 +41,7 @@ zeros_lawful : Lawful zeros
 unfolding zeros
 zeros_lawful = record { none = refl; fewer = λ n h. refl; below = λ k. omega arith }
 
-module _ {S : Type 0} (xs : List (Node S)) (head : Option ℕ) (free : ℕ) (tips weights : List ℕ) (stamp brought : ℕ) (size : length xs ≡ min brought 65536) (law : (serial : ℕ → ℕ) → Tree (links xs) head free (λ _. 0) serial 0) where
+module _ {S : Type 0} (xs : List (Node S)) (head : Option ℕ) (free : ℕ) (tips weights : List ℕ) (bare : tips ≡ []) (stamp brought : ℕ) (size : length xs ≡ min brought 65536) (law : (serial : ℕ → ℕ) → Tree (links xs) head free (λ _. 0) serial 0) where
   -- the parts as the maker leaves them
   abbrev pub made : View S
   made = record {
@@ -49,7 +49,6 @@ module _ {S : Type 0} (xs : List (Node S)) (head : Option ℕ) (free : ℕ) (tip
     head = head;
     free = free;
     tips = tips;
-    n = 0;
     weights = weights;
     holds = replicate 16 None;
     phase = Empty;
@@ -63,11 +62,10 @@ module _ {S : Type 0} (xs : List (Node S)) (head : Option ℕ) (free : ℕ) (tip
       record {
         sound = fresh_sound brought stamp q lawful;
         serial = λ n. n;
-        tree = tree_same (links xs) head free (λ _. 0) (named tips 0 (replicate 16 None)) (λ n. n) 0 (λ k. none_held 16 k) t;
+        tree = tree_same (links xs) head free (λ _. 0) (named tips (replicate 16 None)) (λ n. n) 0 (λ k. let z : sum_by (is_node k) tips ≡ 0 = ap (sum_by (is_node k)) bare in omega (arith, none_held 16 k)) t;
         inverse = λ k l c. absurd (omega (arith, t.past k l c));
-        fit = omega arith;
-        number = refl;
-        paths_are = λ i l. absurd (omega arith);
+        number = sym (ap length bare);
+        paths_are = λ i l. absurd (omega (arith, ap length bare));
         sixteen = refl;
         places_are = λ j l. none_alike xs (λ n. n) 16 j;
         phase = refl;

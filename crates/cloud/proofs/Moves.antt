@@ -1,9 +1,8 @@
 -- Paths made longer, one after another.
-use Rattle.std.proofs.Common.{◌≡◌, ℕ, ◌+◌, ◌-◌, ◌<◌, ◌≤◌, ◌≢◌, List, ◌∷◌, length, get_or, take, set, Some, sum_by, Option, sym, refl, ap, ◌∙◌, subst, ⊎_elim, arith}
+use Rattle.std.proofs.Common.{◌≡◌, ℕ, ◌+◌, ◌-◌, ◌<◌, ◌≤◌, ◌≢◌, List, ◌∷◌, length, get_or, set, Some, sum_by, Option, sym, refl, ap, ◌∙◌, subst, ⊎_elim, arith}
 use mathlib.Core.Logic.{∥∥₁_elim, ∥∥₁_map}
 use native.Mathlib.Bridge.{le_prop}
-use lib.Seq.{take-set-lt}
-use Rattle.std.proofs.lemmas.List.{length-set, get_or-set_same, get_or-set_other, get_or-take, length-take-le}
+use Rattle.std.proofs.lemmas.List.{length-set, get_or-set_same, get_or-set_other}
 use Rattle.std.proofs.lemmas.List.Sums.{sum_by-set, get_or-le-sum_by}
 use Rattle.std.proofs.lemmas.Bool.{cases_eq, cases_lt}
 use Rattle.filter.specs.Filters.{Pair, PathOf}
@@ -43,23 +42,14 @@ module _ (w : ℕ → ℕ) (fs : List ℕ) (i : ℕ) (h : i < length fs) where
       omega (arith, get_or-le-sum_by (is_node r) (set fs i (r + 1)) j 0 l', sum_by-set (is_node r) fs i (r + 1) 0 h, get_or-le-sum_by (is_node r) fs i 0 h, z, o)
 
 -- one path more made longer
-module _ {S : Type 0} (ls ms : List Link) (ss ts : List S) (free : ℕ) (es row : List ℕ) (news : ℕ → S → S) (n i nd : ℕ) (old state : S) (w serial node : ℕ → ℕ) (issued : ℕ) (ln : n ≤ length row) (li : i < n) (lt : length ts ≡ length ms) (read : (d : S) → old ≡ get_or ts (get_or row i 0) d) (new : state ≡ news i old) (g : Moved ls ms ss ts (Some nd) free es row news n i w serial node issued) where
-  moved_len : length (take n row) ≡ n
-  moved_len = length-take-le n row ln
-
-  moved_li : i < length (take n row)
-  moved_li = omega (arith, moved_len)
-
+module _ {S : Type 0} (ls ms : List Link) (ss ts : List S) (free : ℕ) (es row : List ℕ) (news : ℕ → S → S) (i nd : ℕ) (old state : S) (w serial node : ℕ → ℕ) (issued : ℕ) (li : i < length row) (lt : length ts ≡ length ms) (read : (d : S) → old ≡ get_or ts (get_or row i 0) d) (new : state ≡ news i old) (g : Moved ls ms ss ts (Some nd) free es row news i w serial node issued) where
   moved_w : ℕ → ℕ
-  moved_w = less w (take n row) i
-
-  tip_at : (j : ℕ) → j < n → get_or (take n row) j 0 ≡ get_or row j 0
-  tip_at j l = get_or-take n row j 0 l
+  moved_w = less w row i
 
   moved_t : Tree ms (Some nd) free (λ k. moved_w k + is_node k (get_or row i 0)) g.serial' (issued + i)
   unfolding moved_w
-  moved_t = tree_same ms (Some nd) free (λ k. w k + sum_by (is_node k) (take n row)) (λ k. less w (take n row) i k + is_node k (get_or row i 0)) g.serial' (issued + i)
-      (λ k. ap (λ x. less w (take n row) i k + is_node k x) (sym (tip_at i li)) ∙ less_add w (take n row) i moved_li k) g.tree
+  moved_t = tree_same ms (Some nd) free (λ k. w k + sum_by (is_node k) row) (λ k. less w row i k + is_node k (get_or row i 0)) g.serial' (issued + i)
+      (λ k. less_add w row i li k) g.tree
 
   moved_free : (nd < length ms) × ((link_at ms nd).count ≤ 0)
   moved_free = head_free ms nd free (λ k. moved_w k + is_node k (get_or row i 0)) g.serial' (issued + i) moved_t
@@ -67,15 +57,15 @@ module _ {S : Type 0} (ls ms : List Link) (ss ts : List S) (free : ℕ) (es row 
   moved_on : (o : Option ℕ) (p : PathOf S) → IsNamed moved_w o → Track ms ts g.serial' o p → Track (set ms nd (linked 1 (Some (get_or row i 0)))) (set ts nd state) (with_serial g.serial' nd (issued + i)) o p
   moved_on = issue_stays ms ts nd free (Some (get_or row i 0)) state moved_w g.serial' (issued + i) lt moved_t
 
-  moved_other : (j : ℕ) → j < n → j ≢ i → IsNamed moved_w (Some (get_or row j 0))
+  moved_other : (j : ℕ) → j < length row → j ≢ i → IsNamed moved_w (Some (get_or row j 0))
   unfolding moved_w
   moved_other j l ne r e =
       let z : get_or row j 0 ≡ r = cc in
-      subst (λ x. 0 < less w (take n row) i x) (tip_at j l ∙ z) (less_other w (take n row) i moved_li j (omega (arith, moved_len)) ne)
+      subst (λ x. 0 < less w row i x) z (less_other w row i li j l ne)
 
-  moved_row : (k : ℕ) → w k + sum_by (is_node k) (take n (set row i nd)) ≡ moved_w k + is_node k nd
+  moved_row : (k : ℕ) → w k + sum_by (is_node k) (set row i nd) ≡ moved_w k + is_node k nd
   unfolding moved_w
-  moved_row k = ap (λ us. w k + sum_by (is_node k) us) (take-set-lt n row i nd li) ∙ less_set w (take n row) i moved_li k nd
+  moved_row k = less_set w row i li k nd
 
   there_before : (k : ℕ) → 0 < (link_at (set ms nd (linked 1 (Some (get_or row i 0)))) k).count → k ≢ nd → 0 < (link_at ms k).count
   there_before k q ne = subst (λ x. 0 < x.count) (link_at_other ms nd k (linked 1 (Some (get_or row i 0))) ne) q
@@ -86,7 +76,7 @@ module _ {S : Type 0} (ls ms : List Link) (ss ts : List S) (free : ℕ) (es row 
       let z : get_or row i 0 ≡ k = cc in
       new ∙ ap (news i) (read old ∙ ap (λ y. get_or ts y old) z ∙ d old)
 
-  pub moved_more : Moved ls (set ms nd (linked 1 (Some (get_or row i 0)))) ss (set ts nd state) (link_at ms nd).parent (free - 1) es (set row i nd) news n (i + 1) w serial node issued
+  pub moved_more : Moved ls (set ms nd (linked 1 (Some (get_or row i 0)))) ss (set ts nd state) (link_at ms nd).parent (free - 1) es (set row i nd) news (i + 1) w serial node issued
   unfolding moved_w
   moved_more = record {
     serial' = with_serial g.serial' nd (issued + i);
@@ -94,8 +84,8 @@ module _ {S : Type 0} (ls ms : List Link) (ss ts : List S) (free : ℕ) (es row 
     size = length-set ms nd (linked 1 (Some (get_or row i 0))) ∙ g.size;
     tree =
         let q : (issued + i) + 1 ≡ issued + (i + 1) = omega arith in
-        subst (λ v. Tree (set ms nd (linked 1 (Some (get_or row i 0)))) (link_at ms nd).parent (free - 1) (λ k. w k + sum_by (is_node k) (take n (set row i nd))) (with_serial g.serial' nd (issued + i)) v) q
-        (tree_same _ _ _ (λ k. moved_w k + is_node k nd) (λ k. w k + sum_by (is_node k) (take n (set row i nd))) _ _ moved_row (tree_issue ms nd free (Some (get_or row i 0)) moved_w g.serial' (issued + i) moved_t));
+        subst (λ v. Tree (set ms nd (linked 1 (Some (get_or row i 0)))) (link_at ms nd).parent (free - 1) (λ k. w k + sum_by (is_node k) (set row i nd)) (with_serial g.serial' nd (issued + i)) v) q
+        (tree_same _ _ _ (λ k. moved_w k + is_node k nd) (λ k. w k + sum_by (is_node k) (set row i nd)) _ _ moved_row (tree_issue ms nd free (Some (get_or row i 0)) moved_w g.serial' (issued + i) moved_t));
     inverse = λ k l q. ⊎_elim
         (λ e. subst (λ x. with_serial g.node' (issued + i) nd (with_serial g.serial' nd (issued + i) x) ≡ x) (sym e) (ap (with_serial g.node' (issued + i) nd) (with_serial_same g.serial' nd (issued + i)) ∙ with_serial_same g.node' (issued + i) nd))
         (λ ne.
@@ -115,7 +105,7 @@ module _ {S : Type 0} (ls ms : List Link) (ss ts : List S) (free : ℕ) (es row 
         let c = g.grows k q in
         let ne : k ≢ nd = λ e. let z : 0 < (link_at ms nd).count = subst (λ x. 0 < (link_at ms x).count) e c in omega (arith, moved_free.1) in
         subst (λ x. 0 < x.count) (sym (link_at_other ms nd k (linked 1 (Some (get_or row i 0))) ne)) c;
-    stays = λ o p e r. moved_on o p (λ q z. omega (arith, e q z, less_rest w (take n row) i moved_li q)) (g.stays o p e r);
+    stays = λ o p e r. moved_on o p (λ q z. omega (arith, e q z, less_rest w row i li q)) (g.stays o p e r);
     longer = λ j x p l r. ⊎_elim
         (λ e.
         let r' : Track ms ts g.serial' (Some (get_or row i 0)) (x ∷ p) = subst (λ y. Track ms ts g.serial' (Some (get_or row y 0)) (x ∷ p)) e (g.ahead j (x ∷ p) (omega arith) (omega arith) r) in
@@ -127,20 +117,21 @@ module _ {S : Type 0} (ls ms : List Link) (ss ts : List S) (free : ℕ) (es row 
         (λ ne.
         let r' = g.longer j x p (omega arith) r in
         subst (λ y. Track (set ms nd (linked 1 (Some (get_or row i 0)))) (set ts nd state) (with_serial g.serial' nd (issued + i)) (Some y) (record { state = news j x.state; serial = issued + j } ∷ x ∷ p)) (sym (get_or-set_other row i j nd 0 ne))
-        (moved_on (Some (get_or row j 0)) (record { state = news j x.state; serial = issued + j } ∷ x ∷ p) (moved_other j (omega arith) ne) r'))
+        (moved_on (Some (get_or row j 0)) (record { state = news j x.state; serial = issued + j } ∷ x ∷ p) (moved_other j (omega (arith, l)) ne) r'))
         (cases_eq j i);
     ahead = λ j p l l2 r.
         let ne : j ≢ i = omega arith in
+        let l3 : j < length row = omega (arith, length-set row i nd) in
         subst (λ y. Track (set ms nd (linked 1 (Some (get_or row i 0)))) (set ts nd state) (with_serial g.serial' nd (issued + i)) (Some y) p) (sym (get_or-set_other row i j nd 0 ne))
-        (moved_on (Some (get_or row j 0)) p (moved_other j l2 ne) (g.ahead j p (omega arith) l2 r));
+        (moved_on (Some (get_or row j 0)) p (moved_other j l3 ne) (g.ahead j p (omega arith) l3 r));
   }
 
-pub moved_none : {S : Type 0} (ls : List Link) (ss : List S) (head : Option ℕ) (free : ℕ) (row : List ℕ) (news : ℕ → S → S) (n : ℕ) (w serial node : ℕ → ℕ) (issued : ℕ) → Tree ls head free (λ k. w k + sum_by (is_node k) (take n row)) serial issued → Inverse ls serial node → Moved ls ls ss ss head free row row news n 0 w serial node issued
-moved_none ls ss head free row news n w serial node issued t inv = record {
+pub moved_none : {S : Type 0} (ls : List Link) (ss : List S) (head : Option ℕ) (free : ℕ) (row : List ℕ) (news : ℕ → S → S) (w serial node : ℕ → ℕ) (issued : ℕ) → Tree ls head free (λ k. w k + sum_by (is_node k) row) serial issued → Inverse ls serial node → Moved ls ls ss ss head free row row news 0 w serial node issued
+moved_none ls ss head free row news w serial node issued t inv = record {
   serial' = serial;
   node' = node;
   size = refl;
-  tree = let q : issued ≡ issued + 0 = omega arith in subst (λ v. Tree ls head free (λ k. w k + sum_by (is_node k) (take n row)) serial v) q t;
+  tree = let q : issued ≡ issued + 0 = omega arith in subst (λ v. Tree ls head free (λ k. w k + sum_by (is_node k) row) serial v) q t;
   inverse = inv;
   older = λ s l. refl;
   fresh = λ s l l2. absurd (omega arith);
@@ -150,24 +141,21 @@ moved_none ls ss head free row news n w serial node issued t inv = record {
   ahead = λ j p _ _ r. r;
 }
 
-pub moved_step : {S : Type 0} (ls ms ms' : List Link) (ss ts ts' : List S) (head head' : Option ℕ) (free free' : ℕ) (es row : List ℕ) (news : ℕ → S → S) (n i nd : ℕ) (old state : S) (w serial node : ℕ → ℕ) (issued : ℕ) → n ≤ length row → i < n → length ts ≡ length ms → ((d : S) → old ≡ get_or ts (get_or row i 0) d) → state ≡ news i old → head ≡ Some nd → head' ≡ (link_at ms nd).parent → ms' ≡ set ms nd (linked 1 (Some (get_or row i 0))) → ts' ≡ set ts nd state → free' + 1 ≡ free → Moved ls ms ss ts head free es row news n i w serial node issued → Moved ls ms' ss ts' head' free' es (set row i nd) news n (i + 1) w serial node issued
-moved_step ls ms ms' ss ts ts' head head' free free' es row news n i nd old state w serial node issued ln li lt read new eh eh' em et ef g =
+pub moved_step : {S : Type 0} (ls ms ms' : List Link) (ss ts ts' : List S) (head head' : Option ℕ) (free free' : ℕ) (es row : List ℕ) (news : ℕ → S → S) (i nd : ℕ) (old state : S) (w serial node : ℕ → ℕ) (issued : ℕ) → i < length row → length ts ≡ length ms → ((d : S) → old ≡ get_or ts (get_or row i 0) d) → state ≡ news i old → head ≡ Some nd → head' ≡ (link_at ms nd).parent → ms' ≡ set ms nd (linked 1 (Some (get_or row i 0))) → ts' ≡ set ts nd state → free' + 1 ≡ free → Moved ls ms ss ts head free es row news i w serial node issued → Moved ls ms' ss ts' head' free' es (set row i nd) news (i + 1) w serial node issued
+moved_step ls ms ms' ss ts ts' head head' free free' es row news i nd old state w serial node issued li lt read new eh eh' em et ef g =
     let f : free - 1 ≡ free' = omega arith in
-    let r = moved_more ls ms ss ts free es row news n i nd old state w serial node issued ln li lt read new (subst (λ o. Moved ls ms ss ts o free es row news n i w serial node issued) eh g) in
-    subst (λ a. Moved ls a ss ts' head' free' es (set row i nd) news n (i + 1) w serial node issued) (sym em)
-    (subst (λ a. Moved ls (set ms nd (linked 1 (Some (get_or row i 0)))) ss a head' free' es (set row i nd) news n (i + 1) w serial node issued) (sym et)
-    (subst (λ a. Moved ls (set ms nd (linked 1 (Some (get_or row i 0)))) ss (set ts nd state) a free' es (set row i nd) news n (i + 1) w serial node issued) (sym eh')
-    (subst (λ a. Moved ls (set ms nd (linked 1 (Some (get_or row i 0)))) ss (set ts nd state) (link_at ms nd).parent a es (set row i nd) news n (i + 1) w serial node issued) f r)))
+    let r = moved_more ls ms ss ts free es row news i nd old state w serial node issued li lt read new (subst (λ o. Moved ls ms ss ts o free es row news i w serial node issued) eh g) in
+    subst (λ a. Moved ls a ss ts' head' free' es (set row i nd) news (i + 1) w serial node issued) (sym em)
+    (subst (λ a. Moved ls (set ms nd (linked 1 (Some (get_or row i 0)))) ss a head' free' es (set row i nd) news (i + 1) w serial node issued) (sym et)
+    (subst (λ a. Moved ls (set ms nd (linked 1 (Some (get_or row i 0)))) ss (set ts nd state) a free' es (set row i nd) news (i + 1) w serial node issued) (sym eh')
+    (subst (λ a. Moved ls (set ms nd (linked 1 (Some (get_or row i 0)))) ss (set ts nd state) (link_at ms nd).parent a es (set row i nd) news (i + 1) w serial node issued) f r)))
 
 -- what the next turn may ask
-module _ {S : Type 0} (ls ms : List Link) (ss ts : List S) (head head' : Option ℕ) (free free' : ℕ) (es row : List ℕ) (news : ℕ → S → S) (n i : ℕ) (inv : (w serial node : ℕ → ℕ) (issued : ℕ) → Tree ls head free (λ k. w k + sum_by (is_node k) (take n es)) serial issued → Inverse ls serial node → Moved ls ms ss ts head' free' es row news n i w serial node issued) (r : SomeMapAll ls head free (take n es)) where
+module _ {S : Type 0} (ls ms : List Link) (ss ts : List S) (head head' : Option ℕ) (free free' : ℕ) (es row : List ℕ) (news : ℕ → S → S) (i : ℕ) (inv : (w serial node : ℕ → ℕ) (issued : ℕ) → Tree ls head free (λ k. w k + sum_by (is_node k) es) serial issued → Inverse ls serial node → Moved ls ms ss ts head' free' es row news i w serial node issued) (r : SomeMapAll ls head free es) where
   pub moved_some_tree : SomeTree ms head' free'
-  moved_some_tree = ∥∥₁_map r (λ (w, serial, node, issued, t, v). let g = inv w serial node issued t v in ((λ k. w k + sum_by (is_node k) (take n row)), g.serial', issued + i, g.tree))
+  moved_some_tree = ∥∥₁_map r (λ (w, serial, node, issued, t, v). let g = inv w serial node issued t v in ((λ k. w k + sum_by (is_node k) row), g.serial', issued + i, g.tree))
 
-  pub moved_inside : n ≤ length row → i < n → get_or row i 0 < length ms
-  moved_inside ln li = ∥∥₁_elim r le_prop (λ (w, serial, node, issued, t, v).
+  pub moved_inside : i < length row → get_or row i 0 < length ms
+  moved_inside li = ∥∥₁_elim r le_prop (λ (w, serial, node, issued, t, v).
       let g = inv w serial node issued t v in
-      let e : get_or (take n row) i 0 ≡ get_or row i 0 = get_or-take n row i 0 li in
-      let len : length (take n row) ≡ n = length-take-le n row ln in
-      let o : is_node (get_or row i 0) (get_or (take n row) i 0) ≡ 1 = subst (λ x. is_node (get_or row i 0) x ≡ 1) (sym e) (is_node_same (get_or row i 0)) in
-      (named_used ms head' free' (λ k. w k + sum_by (is_node k) (take n row)) g.serial' (issued + i) (get_or row i 0) g.tree (omega (arith, get_or-le-sum_by (is_node (get_or row i 0)) (take n row) i 0 (omega arith), o))).0)
+      (named_used ms head' free' (λ k. w k + sum_by (is_node k) row) g.serial' (issued + i) (get_or row i 0) g.tree (omega (arith, get_or-le-sum_by (is_node (get_or row i 0)) row i 0 li, is_node_same (get_or row i 0)))).0)

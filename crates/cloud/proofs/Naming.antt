@@ -1,8 +1,7 @@
 -- What particles and holds name.
-use Rattle.std.proofs.Common.{◌≡◌, ℕ, ◌+◌, ◌<◌, ◌≤◌, List, length, get_or, take, set, Some, None, sum_by, Option, sym, ap, ◌∙◌, subst, ⊎_elim, arith}
+use Rattle.std.proofs.Common.{◌≡◌, ℕ, ◌+◌, ◌<◌, ◌≤◌, List, length, get_or, set, Some, None, sum_by, Option, ap, ◌∙◌, subst, ⊎_elim, arith}
 use Rattle.std.proofs.lemmas.List.Sums.{sum_by-set, get_or-le-sum_by}
 use Rattle.std.proofs.ByRecursion.{sum_by_le, All-from_get_or}
-use Rattle.std.proofs.lemmas.List.{get_or-take, length-take-le}
 use Rattle.std.proofs.lemmas.Bool.{cases_eq, cases_lt}
 use Rattle.cloud.specs.Links.{Link}
 use Rattle.cloud.specs.Trees.{is_node, is_named, is_child}
@@ -23,19 +22,15 @@ pub few_by : {X : Type 0} (f : X → ℕ) (d : X) → ((x : X) → f x ≤ 1) �
 few_by f d h xs = let b = sum_by_le f 1 xs (All-from_get_or (λ x. f x ≤ 1) xs d (λ i l. h (get_or xs i d))) in omega arith
 
 -- a particle names its node
-pub particle_named : (ps : List ℕ) (n : ℕ) (holds : List (Option ℕ)) (i : ℕ) → n ≤ length ps → i < n → 0 < named ps n holds (get_or ps i 0)
-particle_named ps n holds i h l =
-    let len : length (take n ps) ≡ n = length-take-le n ps h in
-    let e : get_or (take n ps) i 0 ≡ get_or ps i 0 = get_or-take n ps i 0 l in
-    let s : is_node (get_or ps i 0) (get_or (take n ps) i 0) ≡ 1 = subst (λ k. is_node (get_or ps i 0) k ≡ 1) (sym e) (is_node_same (get_or ps i 0)) in
-    omega (arith, get_or-le-sum_by (is_node (get_or ps i 0)) (take n ps) i 0 (omega arith), s)
+pub particle_named : (ps : List ℕ) (holds : List (Option ℕ)) (i : ℕ) → i < length ps → 0 < named ps holds (get_or ps i 0)
+particle_named ps holds i l = omega (arith, get_or-le-sum_by (is_node (get_or ps i 0)) ps i 0 l, is_node_same (get_or ps i 0))
 
 -- a place of the holds written
-pub named_set : (ps : List ℕ) (n : ℕ) (holds : List (Option ℕ)) (p : ℕ) (o : Option ℕ) (k : ℕ) → p < length holds → named ps n (set holds p o) k + is_named (get_or holds p None) k ≡ named ps n holds k + is_named o k
-named_set ps n holds p o k h = omega (arith, sum_by-set (λ x. is_named x k) holds p o None h)
+pub named_set : (ps : List ℕ) (holds : List (Option ℕ)) (p : ℕ) (o : Option ℕ) (k : ℕ) → p < length holds → named ps (set holds p o) k + is_named (get_or holds p None) k ≡ named ps holds k + is_named o k
+named_set ps holds p o k h = omega (arith, sum_by-set (λ x. is_named x k) holds p o None h)
 
 -- an open place names its node
-pub place_named : (ps : List ℕ) (n : ℕ) (holds : List (Option ℕ)) (q node : ℕ) → q < length holds → get_or holds q None ≡ Some node → 0 < named ps n holds node
-place_named ps n holds q node l e =
+pub place_named : (ps : List ℕ) (holds : List (Option ℕ)) (q node : ℕ) → q < length holds → get_or holds q None ≡ Some node → 0 < named ps holds node
+place_named ps holds q node l e =
     let o : is_named (get_or holds q None) node ≡ 1 = ap (λ x. is_named x node) e ∙ is_node_same node in
     omega (arith, get_or-le-sum_by (λ x. is_named x node) holds q None l, o)

@@ -1,9 +1,9 @@
 -- The ways through a hold.
-use Rattle.std.proofs.Common.{◌≡◌, ℕ, zero, suc, ◌+◌, ◌^◌, ◌<◌, ◌≤◌, true, false, ltb, List, [], ◌∷◌, length, get_or, take, set, Some, None, sum_by, Option, sym, refl, ap, ◌∙◌, subst, ⊎_elim, arith}
+use Rattle.std.proofs.Common.{◌≡◌, ℕ, zero, suc, ◌+◌, ◌^◌, ◌<◌, ◌≤◌, true, false, ltb, List, [], ◌∷◌, length, get_or, set, Some, None, sum_by, Option, sym, refl, ap, ◌∙◌, subst, ⊎_elim, arith}
 use mathlib.Core.Logic.{∥∥₁_elim}
 use native.Mathlib.Bridge.{le_prop}
 use Rattle.std.proofs.lemmas.Bool.{lt-ltb, le-ltb, cases_eq}
-use Rattle.std.proofs.lemmas.List.{length-set, length-take-le, get_or-set_same, get_or-set_other}
+use Rattle.std.proofs.lemmas.List.{length-set, get_or-set_same, get_or-set_other}
 use Rattle.refusals.specs.declared.Refusal.TheVariants.{WrongPhase, OutOfRange, NoPlaceLeft}
 use Rattle.sources.specs.Supplies.{Supply}
 use Rattle.models.specs.Meanings.{Meaning}
@@ -26,9 +26,9 @@ use Rattle.cloud.proofs.Naming.{particle_named, place_named, named_set, few_by, 
 use Rattle.cloud.proofs.Stepping.{taken_refused, taken_granted, stay_all, alike_stays}
 use Rattle.cloud.proofs.Keeping.{living, freed_by, same_nodes, same_links, track_on}
 
--- the cloud that holds the path of particle i in a place, once its tree is so
+-- the cloud that holds the path of a tip in a place, once its tree is so
 abbrev pub held_view : {S : Type 0} → View S → ℕ → ℕ → List (Node S) → Option ℕ → ℕ → View S
-held_view v i place nodes head free = record { nodes = nodes; head = head; free = free; tips = v.tips; n = v.n; weights = v.weights; holds = set v.holds place (Some (get_or v.tips i 0)); phase = v.phase; round = v.round; stamp = v.stamp }
+held_view v tip place nodes head free = record { nodes = nodes; head = head; free = free; tips = v.tips; weights = v.weights; holds = set v.holds place (Some tip); phase = v.phase; round = v.round; stamp = v.stamp }
 
 some_none : {A : Type 0} {x : A} → Some x ≡ None → ⊥
 some_none e = let z : ◌≡◌ {A = ℕ} 0 1 = cc in omega arith
@@ -55,9 +55,9 @@ closed_alike ls ss serial None (Some p) x e = absurd x
 closed_alike ls ss serial (Some n) (Some p) x e = absurd (some_none e)
 
 -- the node of a particle is in use, and one thing more can hang on it
-module _ {S : Type 0} (v : View S) (s : SomeFilter v) (i : ℕ) (li : i < v.n) (high : v.n ≤ 256) where
+module _ {S : Type 0} (v : View S) (s : SomeFilter v) (i : ℕ) (li : i < length v.tips) (high : length v.tips ≤ 256) where
   tip_used : (node : ℕ → ℕ) (f : Filter S) (h : Represents node v f) → (get_or v.tips i 0 < length (links v.nodes)) × (0 < (link_at (links v.nodes) (get_or v.tips i 0)).count)
-  tip_used node f h = named_used (links v.nodes) v.head v.free (named v.tips v.n v.holds) h.serial f.issued (get_or v.tips i 0) h.tree (particle_named v.tips v.n v.holds i h.fit li)
+  tip_used node f h = named_used (links v.nodes) v.head v.free (named v.tips v.holds) h.serial f.issued (get_or v.tips i 0) h.tree (particle_named v.tips v.holds i li)
 
   pub hold_inside : get_or v.tips i 0 < length v.nodes
   hold_inside = ∥∥₁_elim s le_prop (λ (node, f, h). omega (arith, (tip_used node f h).0, length-links v.nodes))
@@ -68,10 +68,10 @@ module _ {S : Type 0} (v : View S) (s : SomeFilter v) (i : ℕ) (li : i < v.n) (
   pub hold_room : (link_at (links v.nodes) (get_or v.tips i 0)).count + 1 < 2 ^ 32
   hold_room = ∥∥₁_elim s le_prop (λ (node, f, h).
       let c = h.tree.counts (get_or v.tips i 0) (tip_used node f h).0 in
-      let a = few_by (is_node (get_or v.tips i 0)) 0 (is_node_le (get_or v.tips i 0)) (take v.n v.tips) in
+      let a = few_by (is_node (get_or v.tips i 0)) 0 (is_node_le (get_or v.tips i 0)) v.tips in
       let b = few_by (λ o. is_named o (get_or v.tips i 0)) None (λ o. is_named_le o (get_or v.tips i 0)) v.holds in
       let d = few_by (is_child (get_or v.tips i 0)) no_link (is_child_le (get_or v.tips i 0)) (links v.nodes) in
-      omega (arith, c, a, b, d, length-take-le v.n v.tips h.fit, h.sixteen, h.tree.few))
+      omega (arith, c, a, b, d, h.sixteen, h.tree.few))
 
 module _ {S : Type 0} (m : Meaning S) (q : Supply) (v : View S) (i : ℕ) where
   pub hold_wrong_phase : v.phase ≡ Empty → Follows m (hold i) (refused WrongPhase) v q v q
@@ -84,11 +84,11 @@ module _ {S : Type 0} (m : Meaning S) (q : Supply) (v : View S) (i : ℕ) where
         ap (λ p. unless (is_living p) WrongPhase (unless (ltb i (length f.paths)) OutOfRange (unless (some_closed f.places) NoPlaceLeft None))) h.phase
         ∙ ap (λ t. unless t WrongPhase (unless (ltb i (length f.paths)) OutOfRange (unless (some_closed f.places) NoPlaceLeft None))) (living v.phase some_way)
 
-    pub hold_out_of_range : v.n ≤ i → Follows m (hold i) (refused OutOfRange) v q v q
+    pub hold_out_of_range : length v.tips ≤ i → Follows m (hold i) (refused OutOfRange) v q v q
     hold_out_of_range l node f h src = taken_refused m (hold i) v q node f OutOfRange h src
         (past_phase node f h ∙ ap (λ t. unless t OutOfRange (unless (some_closed f.places) NoPlaceLeft None)) (le-ltb i (length f.paths) (omega (arith, h.number))))
 
-    module _ (li : i < v.n) where
+    module _ (li : i < length v.tips) where
       past_range : (node : ℕ → ℕ) (f : Filter S) → Represents node v f → refusal m f (hold i) ≡ unless (some_closed f.places) NoPlaceLeft None
       past_range node f h = past_phase node f h ∙ ap (λ t. unless t OutOfRange (unless (some_closed f.places) NoPlaceLeft None)) (lt-ltb i (length f.paths) (omega (arith, h.number)))
 
@@ -99,9 +99,13 @@ module _ {S : Type 0} (m : Meaning S) (q : Supply) (v : View S) (i : ℕ) where
           let l2 : k < 16 = omega (arith, h.sound.sixteen_places) in
           full k l2 (alike_closed (links v.nodes) (states v.nodes) h.serial (get_or v.holds k None) (get_or f.places k None) (h.places_are k l2) e))))
 
-      module _ (v' : View S) (p : ℕ) (lp : p < 16) (closed : get_or v.holds p None ≡ None) (et : v'.tips ≡ v.tips) (en : v'.n ≡ v.n) (eh : v'.holds ≡ set v.holds p (Some (get_or v.tips i 0))) (ep : v'.phase ≡ v.phase) (er : v'.round ≡ v.round) (es : v'.stamp ≡ v.stamp) (ew : v'.weights ≡ v.weights) (ef : v'.free ≡ v.free)
-          (kept : states v'.nodes ≡ states v.nodes) (frame : Kept (links v.nodes) (links v'.nodes))
-          (law : (w serial : ℕ → ℕ) (issued : ℕ) → Tree (links v.nodes) v.head v.free w serial issued → Tree (links v'.nodes) v'.head v'.free (λ k. w k + is_node k (get_or v.tips i 0)) serial issued) where
+      -- a hold that is granted: the tip, the place, the nodes, their first free one, and how many are free
+      module _ (tip : ℕ) (is : get_or v.tips i 0 ≡ tip) (p : ℕ) (lp : p < 16) (closed : get_or v.holds p None ≡ None) (nodes : List (Node S)) (head : Option ℕ) (left : ℕ) (ef : left ≡ v.free)
+          (kept : states nodes ≡ states v.nodes) (frame : Kept (links v.nodes) (links nodes))
+          (law : (w serial : ℕ → ℕ) (issued : ℕ) → Tree (links v.nodes) v.head v.free w serial issued → Tree (links nodes) head left (λ k. w k + is_node k tip) serial issued) where
+        abbrev v' : View S
+        v' = held_view v tip p nodes head left
+
         module _ (node : ℕ → ℕ) (f : Filter S) (h : Represents node v f) where
           inside_holds : p < length v.holds
           inside_holds = omega (arith, h.sixteen)
@@ -115,37 +119,34 @@ module _ {S : Type 0} (m : Meaning S) (q : Supply) (v : View S) (i : ℕ) where
           open_call : refusal m f (hold i) ≡ None
           open_call = past_range node f h ∙ ap (λ t. unless t NoPlaceLeft None) (one_closed f.places p inside_places place_closed)
 
-          more : (k : ℕ) → named v'.tips v'.n v'.holds k ≡ named v.tips v.n v.holds k + is_node k (get_or v.tips i 0)
+          more : (k : ℕ) → named v'.tips v'.holds k ≡ named v.tips v.holds k + is_node k tip
           more k =
-              let a = ap (λ us. sum_by (is_node k) (take v'.n us)) et in
-              let a2 = ap (λ j. sum_by (is_node k) (take j v.tips)) en in
-              let b = ap (sum_by (λ o. is_named o k)) eh in
               let z : is_named (get_or v.holds p None) k ≡ 0 = ap (λ o. is_named o k) closed in
-              let x = named_set v.tips v.n v.holds p (Some (get_or v.tips i 0)) k inside_holds in
-              omega (arith, a, a2, b, z, x)
+              let x = named_set v.tips v.holds p (Some tip) k inside_holds in
+              omega (arith, z, x)
 
-          new_tree : Tree (links v'.nodes) v'.head v'.free (named v'.tips v'.n v'.holds) h.serial f.issued
-          new_tree = tree_same (links v'.nodes) v'.head v'.free (λ k. named v.tips v.n v.holds k + is_node k (get_or v.tips i 0)) (named v'.tips v'.n v'.holds) h.serial f.issued more (law (named v.tips v.n v.holds) h.serial f.issued h.tree)
+          new_tree : Tree (links v'.nodes) v'.head v'.free (named v'.tips v'.holds) h.serial f.issued
+          new_tree = tree_same (links v'.nodes) v'.head v'.free (λ k. named v.tips v.holds k + is_node k tip) (named v'.tips v'.holds) h.serial f.issued more (law (named v.tips v.holds) h.serial f.issued h.tree)
 
-          on : (k : ℕ) (r : PathOf S) → 0 < named v.tips v.n v.holds k → Track (links v.nodes) (states v.nodes) h.serial (Some k) r → Track (links v'.nodes) (states v'.nodes) h.serial (Some k) r
+          on : (k : ℕ) (r : PathOf S) → 0 < named v.tips v.holds k → Track (links v.nodes) (states v.nodes) h.serial (Some k) r → Track (links v'.nodes) (states v'.nodes) h.serial (Some k) r
           on k r a x = track_on v v' kept frame h.serial f.issued k r h.tree new_tree a (omega (arith, a, more k)) x
 
-          particle_on : (j : ℕ) → j < v.n → Track (links v'.nodes) (states v'.nodes) h.serial (Some (get_or v.tips j 0)) (get_or f.paths j [])
-          particle_on j l = on (get_or v.tips j 0) (get_or f.paths j []) (particle_named v.tips v.n v.holds j h.fit l) (h.paths_are j l)
+          particle_on : (j : ℕ) → j < length v.tips → Track (links v'.nodes) (states v'.nodes) h.serial (Some (get_or v.tips j 0)) (get_or f.paths j [])
+          particle_on j l = on (get_or v.tips j 0) (get_or f.paths j []) (particle_named v.tips v.holds j l) (h.paths_are j l)
 
           holds_len : length v'.holds ≡ 16
-          holds_len = ap length eh ∙ length-set v.holds p (Some (get_or v.tips i 0)) ∙ h.sixteen
+          holds_len = length-set v.holds p (Some tip) ∙ h.sixteen
 
-          place_same : Alike (links v'.nodes) (states v'.nodes) h.serial (get_or (set v.holds p (Some (get_or v.tips i 0))) p None) (get_or (set f.places p (Some (path f i))) p None)
+          place_same : Alike (links v'.nodes) (states v'.nodes) h.serial (get_or (set v.holds p (Some tip)) p None) (get_or (set f.places p (Some (path f i))) p None)
           place_same =
-              subst (λ x. Alike (links v'.nodes) (states v'.nodes) h.serial x (get_or (set f.places p (Some (path f i))) p None)) (sym (get_or-set_same v.holds p (Some (get_or v.tips i 0)) None inside_holds))
-              (subst (λ x. Alike (links v'.nodes) (states v'.nodes) h.serial (Some (get_or v.tips i 0)) x) (sym (get_or-set_same f.places p (Some (path f i)) None inside_places)) (particle_on i li))
+              subst (λ x. Alike (links v'.nodes) (states v'.nodes) h.serial x (get_or (set f.places p (Some (path f i))) p None)) (sym (get_or-set_same v.holds p (Some tip) None inside_holds))
+              (subst (λ x. Alike (links v'.nodes) (states v'.nodes) h.serial (Some tip) x) (sym (get_or-set_same f.places p (Some (path f i)) None inside_places)) (subst (λ k. Track (links v'.nodes) (states v'.nodes) h.serial (Some k) (get_or f.paths i [])) is (particle_on i li)))
 
-          place_other : (j : ℕ) → j < 16 → (j ≡ p → ⊥) → Alike (links v'.nodes) (states v'.nodes) h.serial (get_or (set v.holds p (Some (get_or v.tips i 0))) j None) (get_or (set f.places p (Some (path f i))) j None)
+          place_other : (j : ℕ) → j < 16 → (j ≡ p → ⊥) → Alike (links v'.nodes) (states v'.nodes) h.serial (get_or (set v.holds p (Some tip)) j None) (get_or (set f.places p (Some (path f i))) j None)
           place_other j l ne =
-              subst (λ x. Alike (links v'.nodes) (states v'.nodes) h.serial x (get_or (set f.places p (Some (path f i))) j None)) (sym (get_or-set_other v.holds p j (Some (get_or v.tips i 0)) None ne))
+              subst (λ x. Alike (links v'.nodes) (states v'.nodes) h.serial x (get_or (set f.places p (Some (path f i))) j None)) (sym (get_or-set_other v.holds p j (Some tip) None ne))
               (subst (λ x. Alike (links v'.nodes) (states v'.nodes) h.serial (get_or v.holds j None) x) (sym (get_or-set_other f.places p j (Some (path f i)) None ne))
-              (alike_stays (links v.nodes) (links v'.nodes) (states v.nodes) (states v'.nodes) h.serial h.serial (get_or v.holds j None) (get_or f.places j None) (λ k r e x. on k r (place_named v.tips v.n v.holds j k (omega (arith, h.sixteen)) e) x) (h.places_are j l)))
+              (alike_stays (links v.nodes) (links v'.nodes) (states v.nodes) (states v'.nodes) h.serial h.serial (get_or v.holds j None) (get_or f.places j None) (λ k r e x. on k r (place_named v.tips v.holds j k (omega (arith, h.sixteen)) e) x) (h.places_are j l)))
 
           held_path : Represents node v' (granted m f (hold i) p)
           held_path = record {
@@ -153,21 +154,19 @@ module _ {S : Type 0} (m : Meaning S) (q : Supply) (v : View S) (i : ℕ) where
             serial = h.serial;
             tree = new_tree;
             inverse = λ k l c. h.inverse k (omega (arith, same_links v v' kept frame)) (frame k c).0;
-            fit = let x = h.fit in omega (arith, x, ap length et, en);
-            number = h.number ∙ sym en;
-            paths_are = λ j l. subst (λ us. Track (links v'.nodes) (states v'.nodes) h.serial (Some (get_or us j 0)) (get_or f.paths j [])) (sym et) (particle_on j (omega arith));
+            number = h.number;
+            paths_are = particle_on;
             sixteen = holds_len;
             places_are = λ j l.
-                subst (λ hs. Alike (links v'.nodes) (states v'.nodes) h.serial (get_or hs j None) (get_or (set f.places p (Some (path f i))) j None)) (sym eh)
-                (⊎_elim
-                (λ e. subst (λ x. Alike (links v'.nodes) (states v'.nodes) h.serial (get_or (set v.holds p (Some (get_or v.tips i 0))) x None) (get_or (set f.places p (Some (path f i))) x None)) (sym e) place_same)
+                ⊎_elim
+                (λ e. subst (λ x. Alike (links v'.nodes) (states v'.nodes) h.serial (get_or (set v.holds p (Some tip)) x None) (get_or (set f.places p (Some (path f i))) x None)) (sym e) place_same)
                 (λ ne. place_other j l ne)
-                (cases_eq j p));
-            phase = h.phase ∙ sym ep;
-            round = h.round ∙ sym er;
-            stamp = h.stamp ∙ sym es;
+                (cases_eq j p);
+            phase = h.phase;
+            round = h.round;
+            stamp = h.stamp;
             room = h.room ∙ sym (same_nodes v v' kept frame);
-            weights = λ e. h.weights (sym ep ∙ e) ∙ sym (ap (λ us. take v'.n us) ew ∙ ap (λ k. take k v.weights) en);
+            weights = h.weights;
           }
 
         pub hold_granted : (stamp : ℕ) → stamp ≡ v.stamp → Follows m (hold i) (done 0 0 (held stamp p)) v q v' q

@@ -1,8 +1,8 @@
 -- The ways through a give back.
-use Rattle.std.proofs.Common.{◌≡◌, ℕ, zero, suc, ◌+◌, ◌<◌, ◌≤◌, eqb, ◌≢◌, List, [], ◌∷◌, length, get_or, take, set, is_some, Some, None, sum_by, Option, sym, refl, ap, ◌∙◌, subst, ⊎_elim, arith}
+use Rattle.std.proofs.Common.{◌≡◌, ℕ, zero, suc, ◌+◌, ◌<◌, ◌≤◌, eqb, ◌≢◌, List, [], ◌∷◌, length, get_or, set, is_some, Some, None, sum_by, Option, sym, refl, ap, ◌∙◌, subst, ⊎_elim, arith}
 use mathlib.Core.Logic.{∥∥₁_map}
-use Rattle.std.proofs.lemmas.Bool.{cases_eq, and_from, and_left, and_right, eq-eqb, ne_eqb}
-use Rattle.std.proofs.lemmas.List.{length-set, get_or-set_same, get_or-set_other}
+use Rattle.std.proofs.lemmas.Bool.{cases_eq, cases_lt, and_from, and_left, and_right, eq-eqb, ne_eqb}
+use Rattle.std.proofs.lemmas.List.{length-set, get_or-set_same, get_or-set_other, get_or_past}
 use Rattle.refusals.specs.declared.Refusal.TheVariants.{NotHeld}
 use Rattle.sources.specs.Supplies.{Supply}
 use Rattle.models.specs.Meanings.{Meaning}
@@ -23,15 +23,11 @@ use Rattle.cloud.proofs.Naming.{particle_named, place_named, named_set}
 use Rattle.cloud.proofs.Stepping.{taken_refused, taken_granted, stay_all, alike_stays}
 use Rattle.cloud.proofs.Keeping.{freed_by, same_nodes, same_links, track_on}
 use Rattle.cloud.proofs.Retaining.{closed_alike}
+use Rattle.cloud.proofs.Counting.{none_some}
 
 -- the cloud with a place closed, once its tree is so
 abbrev pub returned_view : {S : Type 0} → View S → ℕ → List (Node S) → Option ℕ → ℕ → View S
-returned_view v place nodes head free = record { nodes = nodes; head = head; free = free; tips = v.tips; n = v.n; weights = v.weights; holds = set v.holds place None; phase = v.phase; round = v.round; stamp = v.stamp }
-
-get_d_beyond : {A : Type 0} (ps : List (Option A)) (j : ℕ) → length ps ≤ j → get_or ps j None ≡ None
-get_d_beyond [] j l = refl
-get_d_beyond (p ∷ ps) zero l = absurd (omega arith)
-get_d_beyond (p ∷ ps) (suc j) l = get_d_beyond ps j (omega arith)
+returned_view v place nodes head free = record { nodes = nodes; head = head; free = free; tips = v.tips; weights = v.weights; holds = set v.holds place None; phase = v.phase; round = v.round; stamp = v.stamp }
 
 -- the path in an open place
 open_path : {S : Type 0} (ls : List Link) (ss : List S) (serial : ℕ → ℕ) (a : Option ℕ) (b : Option (PathOf S)) (n : ℕ) → Alike ls ss serial a b → a ≡ Some n → (p : PathOf S) × (b ≡ Some p) × (0 < length p)
@@ -50,28 +46,35 @@ module _ {S : Type 0} (m : Meaning S) (q : Supply) (v : View S) (stamp p : ℕ) 
   return_other_stamp ne node f h src = taken_refused m (give_back stamp p) v q node f NotHeld h src
       (ap (λ t. unless t NotHeld None) (and_left (eqb stamp f.stamp) (is_some (get_or f.places p None)) (ne_eqb stamp f.stamp (λ e. ne (e ∙ h.stamp)))))
 
-  pub return_no_place : 16 ≤ p → Follows m (give_back stamp p) (refused NotHeld) v q v q
-  return_no_place l node f h src = taken_refused m (give_back stamp p) v q node f NotHeld h src
-      (ap (λ t. unless t NotHeld None) (and_right (eqb stamp f.stamp) (is_some (get_or f.places p None)) (ap is_some (get_d_beyond f.places p (omega (arith, h.sound.sixteen_places))))))
+  pub return_closed : get_or v.holds p None ≡ None → Follows m (give_back stamp p) (refused NotHeld) v q v q
+  return_closed e node f h src =
+      let closed : get_or f.places p None ≡ None = ⊎_elim
+      (λ l. closed_alike (links v.nodes) (states v.nodes) h.serial (get_or v.holds p None) (get_or f.places p None) (h.places_are p l) e)
+      (λ l. get_or_past f.places p None (omega (arith, h.sound.sixteen_places)))
+      (cases_lt p 16) in
+      taken_refused m (give_back stamp p) v q node f NotHeld h src
+      (ap (λ t. unless t NotHeld None) (and_right (eqb stamp f.stamp) (is_some (get_or f.places p None)) (ap is_some closed)))
 
-  pub return_closed : p < 16 → get_or v.holds p None ≡ None → Follows m (give_back stamp p) (refused NotHeld) v q v q
-  return_closed lp e node f h src = taken_refused m (give_back stamp p) v q node f NotHeld h src
-      (ap (λ t. unless t NotHeld None) (and_right (eqb stamp f.stamp) (is_some (get_or f.places p None))
-      (ap is_some (closed_alike (links v.nodes) (states v.nodes) h.serial (get_or v.holds p None) (get_or f.places p None) (h.places_are p lp) e))))
+-- an open place is one of the sixteen
+pub open_inside : (holds : List (Option ℕ)) (p nd : ℕ) → length holds ≡ 16 → get_or holds p None ≡ Some nd → p < 16
+open_inside holds p nd sixteen e = ⊎_elim (λ l. l) (λ l. absurd (none_some (sym (get_or_past holds p None (omega arith)) ∙ e))) (cases_lt p 16)
 
 module _ {S : Type 0} (v : View S) (p : ℕ) (lp : p < 16) (nd : ℕ) (at_p : get_or v.holds p None ≡ Some nd) where
   -- the tree, with the hold's name of its node apart
-  less_one : (node : ℕ → ℕ) (f : Filter S) (h : Represents node v f) → Tree (links v.nodes) v.head v.free (λ k. named v.tips v.n (set v.holds p None) k + is_node k nd) h.serial f.issued
-  less_one node f h = tree_same (links v.nodes) v.head v.free (named v.tips v.n v.holds) (λ k. named v.tips v.n (set v.holds p None) k + is_node k nd) h.serial f.issued
-      (λ k. let z : is_named (get_or v.holds p None) k ≡ is_node k nd = ap (λ o. is_named o k) at_p in omega (arith, named_set v.tips v.n v.holds p None k (omega (arith, h.sixteen)), z)) h.tree
+  less_one : (node : ℕ → ℕ) (f : Filter S) (h : Represents node v f) → Tree (links v.nodes) v.head v.free (λ k. named v.tips (set v.holds p None) k + is_node k nd) h.serial f.issued
+  less_one node f h = tree_same (links v.nodes) v.head v.free (named v.tips v.holds) (λ k. named v.tips (set v.holds p None) k + is_node k nd) h.serial f.issued
+      (λ k. let z : is_named (get_or v.holds p None) k ≡ is_node k nd = ap (λ o. is_named o k) at_p in omega (arith, named_set v.tips v.holds p None k (omega (arith, h.sixteen)), z)) h.tree
 
   pub return_named : SomeFilter v → SomeTreeAt (links v.nodes) v.head v.free nd
-  return_named s = ∥∥₁_map s (λ (node, f, h). (named v.tips v.n (set v.holds p None), h.serial, f.issued, less_one node f h))
+  return_named s = ∥∥₁_map s (λ (node, f, h). (named v.tips (set v.holds p None), h.serial, f.issued, less_one node f h))
 
-  module _ (v' : View S) (freed : ℕ) (et : v'.tips ≡ v.tips) (en : v'.n ≡ v.n) (eh : v'.holds ≡ set v.holds p None) (ep : v'.phase ≡ v.phase) (er : v'.round ≡ v.round) (es : v'.stamp ≡ v.stamp) (ew : v'.weights ≡ v.weights) (ef : v'.free ≡ v.free + freed)
-      (kept : states v'.nodes ≡ states v.nodes) (frame : Kept (links v.nodes) (links v'.nodes))
-      (law : (w serial : ℕ → ℕ) (issued : ℕ) → Tree (links v.nodes) v.head v.free (λ k. w k + is_node k nd) serial issued → Tree (links v'.nodes) v'.head v'.free w serial issued)
+  -- a give back that is granted: the nodes, their first free one, and how many are free
+  module _ (nodes : List (Node S)) (head : Option ℕ) (left freed : ℕ) (ef : left ≡ v.free + freed) (kept : states nodes ≡ states v.nodes) (frame : Kept (links v.nodes) (links nodes))
+      (law : (w serial : ℕ → ℕ) (issued : ℕ) → Tree (links v.nodes) v.head v.free (λ k. w k + is_node k nd) serial issued → Tree (links nodes) head left w serial issued)
       (m : Meaning S) (q : Supply) (stamp : ℕ) (e-stamp : stamp ≡ v.stamp) where
+    abbrev v' : View S
+    v' = returned_view v p nodes head left
+
     module _ (node : ℕ → ℕ) (f : Filter S) (h : Represents node v f) where
       inside_holds : p < length v.holds
       inside_holds = omega (arith, h.sixteen)
@@ -84,21 +87,14 @@ module _ {S : Type 0} (v : View S) (p : ℕ) (lp : p < 16) (nd : ℕ) (at_p : ge
           let r = open_path (links v.nodes) (states v.nodes) h.serial (get_or v.holds p None) (get_or f.places p None) nd (h.places_are p lp) at_p in
           ap (λ t. unless t NotHeld None) (and_from (eqb stamp f.stamp) (is_some (get_or f.places p None)) (eq-eqb stamp f.stamp (e-stamp ∙ sym h.stamp)) (ap is_some r.1))
 
-      same : (k : ℕ) → named v'.tips v'.n v'.holds k ≡ named v.tips v.n (set v.holds p None) k
-      same k =
-          let a = ap (λ us. sum_by (is_node k) (take v'.n us)) et in
-          let a2 = ap (λ j. sum_by (is_node k) (take j v.tips)) en in
-          let b = ap (sum_by (λ o. is_named o k)) eh in
-          omega (arith, a, a2, b)
+      new_tree : Tree (links v'.nodes) v'.head v'.free (named v'.tips v'.holds) h.serial f.issued
+      new_tree = (law (named v.tips (set v.holds p None)) h.serial f.issued (less_one node f h))
 
-      new_tree : Tree (links v'.nodes) v'.head v'.free (named v'.tips v'.n v'.holds) h.serial f.issued
-      new_tree = tree_same (links v'.nodes) v'.head v'.free (named v.tips v.n (set v.holds p None)) (named v'.tips v'.n v'.holds) h.serial f.issued same (law (named v.tips v.n (set v.holds p None)) h.serial f.issued (less_one node f h))
+      on : (k : ℕ) (r : PathOf S) → 0 < named v.tips v.holds k → 0 < named v.tips (set v.holds p None) k → Track (links v.nodes) (states v.nodes) h.serial (Some k) r → Track (links v'.nodes) (states v'.nodes) h.serial (Some k) r
+      on k r a b x = track_on v v' kept frame h.serial f.issued k r h.tree new_tree a b x
 
-      on : (k : ℕ) (r : PathOf S) → 0 < named v.tips v.n v.holds k → 0 < named v.tips v.n (set v.holds p None) k → Track (links v.nodes) (states v.nodes) h.serial (Some k) r → Track (links v'.nodes) (states v'.nodes) h.serial (Some k) r
-      on k r a b x = track_on v v' kept frame h.serial f.issued k r h.tree new_tree a (omega (arith, b, same k)) x
-
-      particle_on : (j : ℕ) → j < v.n → Track (links v'.nodes) (states v'.nodes) h.serial (Some (get_or v.tips j 0)) (get_or f.paths j [])
-      particle_on j l = on (get_or v.tips j 0) (get_or f.paths j []) (particle_named v.tips v.n v.holds j h.fit l) (particle_named v.tips v.n (set v.holds p None) j h.fit l) (h.paths_are j l)
+      particle_on : (j : ℕ) → j < length v.tips → Track (links v'.nodes) (states v'.nodes) h.serial (Some (get_or v.tips j 0)) (get_or f.paths j [])
+      particle_on j l = on (get_or v.tips j 0) (get_or f.paths j []) (particle_named v.tips v.holds j l) (particle_named v.tips (set v.holds p None) j l) (h.paths_are j l)
 
       place_same : Alike (links v'.nodes) (states v'.nodes) h.serial (get_or (set v.holds p None) p None) (get_or (set f.places p None) p None)
       place_same =
@@ -112,7 +108,7 @@ module _ {S : Type 0} (v : View S) (p : ℕ) (lp : p < 16) (nd : ℕ) (at_p : ge
           let l3 : j < length (set v.holds p None) = omega (arith, length-set v.holds p None) in
           subst (λ x. Alike (links v'.nodes) (states v'.nodes) h.serial x (get_or (set f.places p None) j None)) (sym other)
           (subst (λ x. Alike (links v'.nodes) (states v'.nodes) h.serial (get_or v.holds j None) x) (sym (get_or-set_other f.places p j None None ne))
-          (alike_stays (links v.nodes) (links v'.nodes) (states v.nodes) (states v'.nodes) h.serial h.serial (get_or v.holds j None) (get_or f.places j None) (λ k r e x. on k r (place_named v.tips v.n v.holds j k l2 e) (place_named v.tips v.n (set v.holds p None) j k l3 (other ∙ e)) x) (h.places_are j l)))
+          (alike_stays (links v.nodes) (links v'.nodes) (states v.nodes) (states v'.nodes) h.serial h.serial (get_or v.holds j None) (get_or f.places j None) (λ k r e x. on k r (place_named v.tips v.holds j k l2 e) (place_named v.tips (set v.holds p None) j k l3 (other ∙ e)) x) (h.places_are j l)))
 
       returned : Represents node v' (granted m f (give_back stamp p) 0)
       returned = record {
@@ -120,21 +116,19 @@ module _ {S : Type 0} (v : View S) (p : ℕ) (lp : p < 16) (nd : ℕ) (at_p : ge
         serial = h.serial;
         tree = new_tree;
         inverse = λ k l c. h.inverse k (omega (arith, same_links v v' kept frame)) (frame k c).0;
-        fit = let x = h.fit in omega (arith, x, ap length et, en);
-        number = h.number ∙ sym en;
-        paths_are = λ j l. subst (λ us. Track (links v'.nodes) (states v'.nodes) h.serial (Some (get_or us j 0)) (get_or f.paths j [])) (sym et) (particle_on j (omega arith));
-        sixteen = ap length eh ∙ length-set v.holds p None ∙ h.sixteen;
+        number = h.number;
+        paths_are = particle_on;
+        sixteen = length-set v.holds p None ∙ h.sixteen;
         places_are = λ j l.
-            subst (λ hs. Alike (links v'.nodes) (states v'.nodes) h.serial (get_or hs j None) (get_or (set f.places p None) j None)) (sym eh)
-            (⊎_elim
+            ⊎_elim
             (λ e. subst (λ x. Alike (links v'.nodes) (states v'.nodes) h.serial (get_or (set v.holds p None) x None) (get_or (set f.places p None) x None)) (sym e) place_same)
             (λ ne. place_other j l ne)
-            (cases_eq j p));
-        phase = h.phase ∙ sym ep;
-        round = h.round ∙ sym er;
-        stamp = h.stamp ∙ sym es;
+            (cases_eq j p);
+        phase = h.phase;
+        round = h.round;
+        stamp = h.stamp;
         room = h.room ∙ sym (same_nodes v v' kept frame);
-        weights = λ e. h.weights (sym ep ∙ e) ∙ sym (ap (λ us. take v'.n us) ew ∙ ap (λ k. take k v.weights) en);
+        weights = h.weights;
       }
 
     pub return_granted : Follows m (give_back stamp p) (done 0 freed nothing) v q v' q

@@ -1,8 +1,8 @@
 -- The ways through weighing.
-use Rattle.std.proofs.Common.{◌≡◌, ℕ, suc, ◌<◌, ◌≤◌, true, false, List, [], ◌∷◌, map, length, get_or, take, Some, None, Option, sym, refl, ap, ◌∙◌, subst, arith}
+use Rattle.std.proofs.Common.{◌≡◌, ℕ, suc, ◌<◌, ◌≤◌, true, false, List, [], ◌∷◌, map, length, get_or, Some, None, Option, sym, refl, ap, ◌∙◌, subst, arith}
 use mathlib.Core.Logic.{∥∥₁_elim}
 use native.Mathlib.Bridge.{le_prop}
-use Rattle.std.proofs.lemmas.List.{length-map, get_or-map, get_or-take, length-take-le}
+use Rattle.std.proofs.lemmas.List.{length-map, get_or-map}
 use Rattle.refusals.specs.declared.Refusal.TheVariants.{WrongPhase, Unknown}
 use Rattle.resampling.specs.Marks.{total}
 use Rattle.sources.specs.Supplies.{Supply}
@@ -28,7 +28,7 @@ use Rattle.cloud.proofs.Advancing.{not_level}
 
 -- the weighed cloud, over the same tree
 abbrev pub weighed_view : {S : Type 0} → View S → List (Node S) → Option ℕ → ℕ → List ℕ → View S
-weighed_view v nodes head free weights = record { nodes = nodes; head = head; free = free; tips = v.tips; n = v.n; weights = weights; holds = v.holds; phase = Weighed; round = v.round; stamp = v.stamp }
+weighed_view v nodes head free weights = record { nodes = nodes; head = head; free = free; tips = v.tips; weights = weights; holds = v.holds; phase = Weighed; round = v.round; stamp = v.stamp }
 
 -- lists that agree at every place
 lists_same : (xs ys : List ℕ) → length xs ≡ length ys → ((i : ℕ) → i < length xs → get_or xs i 0 ≡ get_or ys i 0) → xs ≡ ys
@@ -41,9 +41,9 @@ lists_same (x ∷ xs) (y ∷ ys) e h =
     cc
 
 -- the newest nodes lie among the nodes
-pub tips_inside : {S : Type 0} (v : View S) → SomeFilter v → (i : ℕ) → i < v.n → get_or v.tips i 0 < length v.nodes
+pub tips_inside : {S : Type 0} (v : View S) → SomeFilter v → (i : ℕ) → i < length v.tips → get_or v.tips i 0 < length v.nodes
 tips_inside v s i l = ∥∥₁_elim s le_prop (λ (node, f, h).
-    omega (arith, (named_used (links v.nodes) v.head v.free (named v.tips v.n v.holds) h.serial f.issued (get_or v.tips i 0) h.tree (particle_named v.tips v.n v.holds i h.fit l)).0, length-links v.nodes))
+    omega (arith, (named_used (links v.nodes) v.head v.free (named v.tips v.holds) h.serial f.issued (get_or v.tips i 0) h.tree (particle_named v.tips v.holds i l)).0, length-links v.nodes))
 
 module _ {S : Type 0} (m : Meaning S) (z : ℕ) (q : Supply) (v : View S) where
   pub weigh_wrong_phase : (v.phase ≡ Level → ⊥) → Follows m (weigh z) (refused WrongPhase) v q v q
@@ -58,38 +58,35 @@ module _ {S : Type 0} (m : Meaning S) (z : ℕ) (q : Supply) (v : View S) where
     weigh_unknown bad node f h src = taken_refused m (weigh z) v q node f Unknown h src (past_phase node f h ∙ ap (λ t. unless t Unknown None) bad)
 
     -- weighing that is granted
-    module _ (known : m.readings z ≡ true) (v' : View S) (sum : ℕ) (ex : v'.nodes ≡ v.nodes) (ed : v'.head ≡ v.head) (ef : v'.free ≡ v.free) (et : v'.tips ≡ v.tips) (en : v'.n ≡ v.n) (eh : v'.holds ≡ v.holds) (ep : v'.phase ≡ Weighed) (er : v'.round ≡ v.round) (es : v'.stamp ≡ v.stamp) (fit : v.n ≤ length v'.weights)
-        (scores : (i : ℕ) (d : S) → i < v.n → get_or v'.weights i 0 ≡ m.score (get_or (states v.nodes) (get_or v.tips i 0) d) z) (is_sum : sum ≡ total (take v.n v'.weights)) where
+    module _ (known : m.readings z ≡ true) (weights : List ℕ) (sum : ℕ) (number : length weights ≡ length v.tips)
+        (scores : (i : ℕ) (d : S) → i < length v.tips → get_or weights i 0 ≡ m.score (get_or (states v.nodes) (get_or v.tips i 0) d) z) (is_sum : sum ≡ total weights) where
+      abbrev v' : View S
+      v' = weighed_view v v.nodes v.head v.free weights
+
       module _ (node : ℕ → ℕ) (f : Filter S) (h : Represents node v f) where
         open_call : refusal m f (weigh z) ≡ None
         open_call = past_phase node f h ∙ ap (λ t. unless t Unknown None) known
 
-        weight_of : (i : ℕ) (p : PathOf S) → i < v.n → Track (links v.nodes) (states v.nodes) h.serial (Some (get_or v.tips i 0)) p → weight m z p ≡ get_or v'.weights i 0
+        weight_of : (i : ℕ) (p : PathOf S) → i < length v.tips → Track (links v.nodes) (states v.nodes) h.serial (Some (get_or v.tips i 0)) p → weight m z p ≡ get_or weights i 0
         weight_of i [] l r = absurd (let y : ◌≡◌ {A = ℕ} 0 1 = cc in omega arith)
         weight_of i (x ∷ p) l (k, e, lk, s, d, r) =
             let y : get_or v.tips i 0 ≡ k = cc in
             ap (λ (u : S). m.score u z) (sym (d x.state) ∙ ap (λ j. get_or (states v.nodes) j x.state) (sym y)) ∙ sym (scores i x.state l)
 
-        weights_are : map (weight m z) f.paths ≡ take v.n v'.weights
+        weights_are : map (weight m z) f.paths ≡ weights
         weights_are =
-            let len : length (map (weight m z) f.paths) ≡ v.n = length-map f.paths (weight m z) ∙ h.number in
-            lists_same (map (weight m z) f.paths) (take v.n v'.weights) (len ∙ sym (length-take-le v.n v'.weights fit))
+            let len : length (map (weight m z) f.paths) ≡ length v.tips = length-map f.paths (weight m z) ∙ h.number in
+            lists_same (map (weight m z) f.paths) weights (len ∙ sym number)
             (λ i l.
-            let l2 : i < v.n = omega (arith, len) in
-            get_or-map (weight m z) f.paths i [] 0 (omega (arith, h.number)) ∙ weight_of i (get_or f.paths i []) l2 (h.paths_are i l2) ∙ sym (get_or-take v.n v'.weights i 0 l2))
+            let l2 : i < length v.tips = omega (arith, len) in
+            get_or-map (weight m z) f.paths i [] 0 (omega (arith, h.number)) ∙ weight_of i (get_or f.paths i []) l2 (h.paths_are i l2))
 
-        -- the cloud weighed, with the parts that stay
-        kept_view : View S
-        kept_view = record { nodes = v.nodes; head = v.head; free = v.free; tips = v.tips; n = v.n; weights = v'.weights; holds = v.holds; phase = Weighed; round = v.round; stamp = v.stamp }
-
-        weighed : Represents node kept_view (granted m f (weigh z) 0)
-        unfolding kept_view
+        weighed : Represents node v' (granted m f (weigh z) 0)
         weighed = record {
           sound = sound_granted m f h.sound (weigh z) 0 open_call;
           serial = h.serial;
           tree = h.tree;
           inverse = h.inverse;
-          fit = h.fit;
           number = h.number;
           paths_are = h.paths_are;
           sixteen = h.sixteen;
@@ -101,16 +98,9 @@ module _ {S : Type 0} (m : Meaning S) (z : ℕ) (q : Supply) (v : View S) where
           weights = λ e. weights_are;
         }
 
-        view_is : kept_view ≡ v'
-        unfolding kept_view
-        view_is = λ j. record { nodes = sym ex j; head = sym ed j; free = sym ef j; tips = sym et j; n = sym en j; weights = v'.weights; holds = sym eh j; phase = sym ep j; round = sym er j; stamp = sym es j }
-
-        now_weighed : Represents node v' (granted m f (weigh z) 0)
-        now_weighed = subst (λ u. Represents node u (granted m f (weigh z) 0)) view_is weighed
-
       pub weigh_granted : Follows m (weigh z) (done 0 0 (weighing sum)) v q v' q
       weigh_granted node f h src =
-          taken_granted m (weigh z) v q node f 0 0 (weighing sum) v' q node (open_call node f h) tt (now_weighed node f h) src refl
-          (freed_by node node v v' f (granted m f (weigh z) 0) 0 h (now_weighed node f h) (ap length ex) (omega arith))
+          taken_granted m (weigh z) v q node f 0 0 (weighing sum) v' q node (open_call node f h) tt (weighed node f h) src refl
+          (freed_by node node v v' f (granted m f (weigh z) 0) 0 h (weighed node f h) refl (omega arith))
           (ap weighing (is_sum ∙ sym (ap total (weights_are node f h))))
           (stay_all v node f.issued)

@@ -1,6 +1,7 @@
 -- The ways through a start.
-use Rattle.std.proofs.Common.{◌≡◌, ℕ, ◌+◌, ◌<◌, ◌≤◌, true, false, leb, ◌⊎◌, List, [], ◌∷◌, length, get_or, take, Some, None, sum_by, Option, sym, refl, ap, ◌∙◌, subst, ⊎_elim, arith}
+use Rattle.std.proofs.Common.{◌≡◌, ℕ, ◌+◌, ◌<◌, ◌≤◌, true, false, leb, ◌⊎◌, List, [], ◌∷◌, length, get_or, Some, None, sum_by, Option, sym, refl, ap, ◌∙◌, subst, ⊎_elim, arith}
 use mathlib.Core.Logic.{∥∥₁_map}
+use Rattle.std.proofs.lemmas.List.{nil_from_length}
 use Rattle.std.proofs.lemmas.List.FromFn.{get_or-map-range_with_len, length-map-range_with_len}
 use Rattle.std.proofs.lemmas.Bool.{and_from, and_left, and_right, le-leb, lt-leb}
 use Rattle.refusals.specs.declared.Refusal.TheVariants.{WrongPhase, OutOfRange, NoNodesLeft, SourceDry}
@@ -32,8 +33,8 @@ use Rattle.cloud.proofs.Counting.{in_use_represented}
 use Rattle.cloud.proofs.Keeping.{free_represented}
 
 -- the cloud that has just begun with n particles, once its tree is so
-abbrev pub started_view : {S : Type 0} → View S → ℕ → List (Node S) → Option ℕ → ℕ → List ℕ → View S
-started_view v n nodes head free tips = record { nodes = nodes; head = head; free = free; tips = tips; n = n; weights = v.weights; holds = v.holds; phase = Level; round = 0; stamp = v.stamp }
+abbrev pub started_view : {S : Type 0} → View S → List (Node S) → Option ℕ → ℕ → List ℕ → View S
+started_view v nodes head free tips = record { nodes = nodes; head = head; free = free; tips = tips; weights = v.weights; holds = v.holds; phase = Level; round = 0; stamp = v.stamp }
 
 not_empty : (p : Phase) → (p ≡ Empty → ⊥) → is_empty p ≡ false
 not_empty Empty h = absurd (h refl)
@@ -42,7 +43,7 @@ not_empty Weighed h = refl
 
 -- what births ask of the tree
 pub start_map : {S : Type 0} (v : View S) → SomeFilter v → SomeMap (links v.nodes) v.head v.free
-start_map v s = ∥∥₁_map s (λ (node, f, h). (named v.tips v.n v.holds, h.serial, node, f.issued, h.tree, h.inverse))
+start_map v s = ∥∥₁_map s (λ (node, f, h). (named v.tips v.holds, h.serial, node, f.issued, h.tree, h.inverse))
 
 module _ {S : Type 0} (m : Meaning S) (n : ℕ) (v : View S) (q : Supply) where
   pub start_wrong_phase : (v.phase ≡ Empty → ⊥) → Follows m (start n) (refused WrongPhase) v q v q
@@ -77,9 +78,12 @@ module _ {S : Type 0} (m : Meaning S) (n : ℕ) (v : View S) (q : Supply) where
         pub start_dry : q.can n ≡ false → Follows m (start n) (refused SourceDry) v q v q
         start_dry cannot node f h src = taken_refused m (start n) v q node f SourceDry h src (past_nodes node f h src ∙ ap (λ t. unless t SourceDry None) cannot)
 
-        -- a start that is granted
-        module _ (can : q.can n ≡ true) (v' : View S) (q' : Supply) (fit : length v'.tips ≡ 256) (en : v'.n ≡ n) (eh : v'.holds ≡ v.holds) (ep : v'.phase ≡ Level) (er : v'.round ≡ 0) (es : v'.stamp ≡ v.stamp) (ef : v'.free + n ≡ v.free) (eq : q' ≡ after n q)
-            (law : (w serial node : ℕ → ℕ) (issued : ℕ) → Tree (links v.nodes) v.head v.free w serial issued → Inverse (links v.nodes) serial node → Born (links v.nodes) (links v'.nodes) (states v.nodes) (states v'.nodes) v'.head v'.free v'.tips (λ k. m.birth (q.to_come k)) n w serial node issued) where
+        -- a start that is granted: the nodes, their first free one, how many are free, and the tips
+        module _ (can : q.can n ≡ true) (nodes : List (Node S)) (head : Option ℕ) (left : ℕ) (tips : List ℕ) (q' : Supply) (en : length tips ≡ n) (ef : left + n ≡ v.free) (eq : q' ≡ after n q)
+            (law : (w serial node : ℕ → ℕ) (issued : ℕ) → Tree (links v.nodes) v.head v.free w serial issued → Inverse (links v.nodes) serial node → Born (links v.nodes) (links nodes) (states v.nodes) (states nodes) head left tips (λ k. m.birth (q.to_come k)) w serial node issued) where
+          abbrev v' : View S
+          v' = started_view v nodes head left tips
+
           module _ (node : ℕ → ℕ) (f : Filter S) (h : Represents node v f) (src : f.source ≡ q) where
             open_call : refusal m f (start n) ≡ None
             open_call = past_nodes node f h src ∙ ap (λ t. unless t SourceDry None) can
@@ -89,10 +93,10 @@ module _ {S : Type 0} (m : Meaning S) (n : ℕ) (v : View S) (q : Supply) where
 
             bare : Tree (links v.nodes) v.head v.free held h.serial f.issued
             unfolding held
-            bare = tree_same (links v.nodes) v.head v.free (named v.tips v.n v.holds) (λ k. sum_by (λ o. is_named o k) v.holds) h.serial f.issued
-                (λ k. let z : sum_by (is_node k) (take v.n v.tips) ≡ 0 = ap (λ j. sum_by (is_node k) (take j v.tips)) (nobody node v f h empty_now) in omega (arith, z)) h.tree
+            bare = tree_same (links v.nodes) v.head v.free (named v.tips v.holds) (λ k. sum_by (λ o. is_named o k) v.holds) h.serial f.issued
+                (λ k. let z : sum_by (is_node k) v.tips ≡ 0 = ap (sum_by (is_node k)) (nil_from_length v.tips (nobody node v f h empty_now)) in omega (arith, z)) h.tree
 
-            got : Born (links v.nodes) (links v'.nodes) (states v.nodes) (states v'.nodes) v'.head v'.free v'.tips (λ k. m.birth (q.to_come k)) n held h.serial node f.issued
+            got : Born (links v.nodes) (links v'.nodes) (states v.nodes) (states v'.nodes) v'.head v'.free v'.tips (λ k. m.birth (q.to_come k)) held h.serial node f.issued
             got = law held h.serial node f.issued bare h.inverse
 
             same_nodes : length v'.nodes ≡ length v.nodes
@@ -106,35 +110,34 @@ module _ {S : Type 0} (m : Meaning S) (n : ℕ) (v : View S) (q : Supply) where
             started = record {
               sound = sound_granted m f h.sound (start n) 0 open_call;
               serial = got.serial';
-              tree = tree_same (links v'.nodes) v'.head v'.free (λ k. held k + sum_by (is_node k) (take n v'.tips)) (named v'.tips v'.n v'.holds) got.serial' (f.issued + n)
-                  (λ k. let a = ap (λ j. sum_by (is_node k) (take j v'.tips)) en in let b = ap (sum_by (λ o. is_named o k)) eh in omega (arith, a, b)) got.tree;
+              tree = subst (λ k. Tree (links v'.nodes) v'.head v'.free (named v'.tips v'.holds) got.serial' (f.issued + k)) en
+                  (tree_same (links v'.nodes) v'.head v'.free (λ k. held k + sum_by (is_node k) v'.tips) (named v'.tips v'.holds) got.serial' (f.issued + length v'.tips)
+                  (λ k. omega arith) got.tree);
               inverse = got.inverse;
-              fit = omega arith;
               number = length-map-range_with_len (born m f) 0 n ∙ sym en;
               paths_are = λ i l.
                   let l2 : i < n = omega arith in
-                  subst (λ p. Track (links v'.nodes) (states v'.nodes) got.serial' (Some (get_or v'.tips i 0)) p) (sym (path_at i l2)) (got.born i l2);
-              sixteen = ap length eh ∙ h.sixteen;
+                  subst (λ p. Track (links v'.nodes) (states v'.nodes) got.serial' (Some (get_or v'.tips i 0)) p) (sym (path_at i l2)) (got.born i l);
+              sixteen = h.sixteen;
               places_are = λ j l.
                   let l2 : j < length v.holds = omega (arith, h.sixteen) in
-                  subst (λ hs. Alike (links v'.nodes) (states v'.nodes) got.serial' (get_or hs j None) (get_or f.places j None)) (sym eh)
-                  (alike_stays (links v.nodes) (links v'.nodes) (states v.nodes) (states v'.nodes) h.serial got.serial' (get_or v.holds j None) (get_or f.places j None)
-                  (λ k p e r. got.stays (Some k) p (λ x y. let z : k ≡ x = cc in subst (λ a. 0 < sum_by (λ o. is_named o a) v.holds) z (let pe = place_named v.tips 0 v.holds j k l2 e in omega (arith, pe))) r)
-                  (h.places_are j l));
-              phase = sym ep;
-              round = sym er;
-              stamp = h.stamp ∙ sym es;
+                  alike_stays (links v.nodes) (links v'.nodes) (states v.nodes) (states v'.nodes) h.serial got.serial' (get_or v.holds j None) (get_or f.places j None)
+                  (λ k p e r. got.stays (Some k) p (λ x y. let z : k ≡ x = cc in subst (λ a. 0 < sum_by (λ o. is_named o a) v.holds) z (let pe = place_named [] v.holds j k l2 e in omega (arith, pe))) r)
+                  (h.places_are j l);
+              phase = refl;
+              round = refl;
+              stamp = h.stamp;
               room = h.room ∙ sym same_nodes;
-              weights = λ e. absurd (level_not_weighed (sym ep ∙ e));
+              weights = λ e. absurd (level_not_weighed e);
             }
 
           pub start_granted : Follows m (start n) (done n 0 nothing) v q v' q'
           start_granted node f h src =
               let g = got node f h src in
-              let a = in_use_represented node v f h.fit h in
-              let b = in_use_represented g.node' v' (granted m f (start n) 0) (started node f h src).fit (started node f h src) in
+              let a = in_use_represented node v f h in
+              let b = in_use_represented g.node' v' (granted m f (start n) 0) (started node f h src) in
               let len = same_nodes node f h src in
               taken_granted m (start n) v q node f n 0 nothing v' q' g.node' (open_call node f h src) tt (started node f h src) (ap (after n) src ∙ sym eq) refl
               (omega (arith, a, b, len, ef))
               refl
-              (record { kept = g.older; new = λ s l l2. seen_free v.nodes (g.node' s) (g.fresh s l l2) })
+              (record { kept = g.older; new = λ s l l2. seen_free v.nodes (g.node' s) (g.fresh s l (omega (arith, en))) })

@@ -1,6 +1,7 @@
 -- What every call shares: refused and granted steps, and that some filter is represented afterwards.
 use Rattle.std.proofs.Common.{◌≡◌, ℕ, ◌+◌, ◌<◌, ◌≤◌, true, leb, List, [], ◌∷◌, length, get_or, Some, None, Option, sym, refl, ap, ◌∙◌, subst, arith}
-use mathlib.Core.Logic.{∥∥₁_map}
+use mathlib.Core.Logic.{∥∥₁_map, ∥∥₁_elim, ∥∥₁_prop}
+use native.Mathlib.Bridge.{le_prop}
 use Rattle.std.proofs.ByRecursion.{All-get_or}
 use Rattle.std.proofs.lemmas.Bool.{and_parts, leb-true}
 use Rattle.refusals.specs.declared.Refusal.{Refusal}
@@ -8,7 +9,7 @@ use Rattle.sources.specs.Supplies.{Supply, Lawful}
 use Rattle.models.specs.Kinds.{Kind}
 use Rattle.models.specs.Meanings.{Meaning}
 use Rattle.resampling.specs.Calls.{in_range}
-use Rattle.filter.specs.declared.phase.Phase.TheVariants.{Empty}
+use Rattle.filter.specs.declared.phase.Phase.TheVariants.{Empty, Weighed}
 use Rattle.filter.specs.Filters.{PathOf, Filter}
 use Rattle.filter.specs.Uses.{in_use}
 use Rattle.filter.specs.Calls.{Call}
@@ -18,9 +19,10 @@ use Rattle.filter.specs.Replies.{Reply, refused, done, told_place, Answer, WasCl
 use Rattle.filter.specs.Sound.{Sound}
 use Rattle.filter.proofs.Refusals.{step_by, reply_by}
 use Rattle.filter.proofs.States.{step_states}
+use Rattle.cloud.specs.declared.cloud.Cloud.{Cloud}
 use Rattle.cloud.specs.Links.{Link}
 use Rattle.cloud.specs.Tracks.{Track}
-use Rattle.cloud.specs.Representations.{View, Represents, Alike, SomeFilter}
+use Rattle.cloud.specs.Representations.{View, Represents, Alike, SomeFilter, SomeFilterOf}
 use Rattle.cloud.specs.Promises.{Stay, Taken, Follows, Steps}
 
 -- the filter with another source
@@ -59,7 +61,6 @@ represents_fed node v f q law h = record {
   serial = h.serial;
   tree = h.tree;
   inverse = h.inverse;
-  fit = h.fit;
   number = h.number;
   paths_are = h.paths_are;
   sixteen = h.sixteen;
@@ -106,13 +107,13 @@ pub stay_all : {S : Type 0} (v : View S) (node : ℕ → ℕ) (b : ℕ) → Stay
 stay_all v node b = record { kept = λ s l. refl; new = λ s l l2. absurd (omega arith) }
 
 -- some filter is represented after a call that follows
-pub some_on : {S : Type 0} (m : Meaning S) (call : Call) (told : Reply) (v v' : View S) (q q' : Supply) → Lawful q → Follows m call told v q v' q' → SomeFilter v → SomeFilter v'
-some_on m call told v v' q q' law go s =
+pub some_on : {S : Type 0} {m : Meaning S} {call : Call} {told : Reply} {v v' : View S} {q q' : Supply} → Lawful q → Follows m call told v q v' q' → SomeFilter v → SomeFilter v'
+some_on {S} {m} {call} {told} {v} {v'} {q} {q'} law go s =
     ∥∥₁_map s (λ (node, f, h). let r = go node (fed f q) (represents_fed node v f q law h) refl in (r.node', step m (fed f q) call (told_place told), r.represents))
 
 -- the same of a call that asks nothing of the source
-pub some_same : {S : Type 0} (m : Meaning S) (call : Call) (told : Reply) (v v' : View S) → ((q : Supply) → Follows m call told v q v' q) → SomeFilter v → SomeFilter v'
-some_same m call told v v' go s = ∥∥₁_map s (λ (node, f, h). let r = go f.source node f h refl in (r.node', step m f call (told_place told), r.represents))
+pub some_same : {S : Type 0} {m : Meaning S} {call : Call} {told : Reply} {v v' : View S} → ((q : Supply) → Follows m call told v q v' q) → SomeFilter v → SomeFilter v'
+some_same {S} {m} {call} {told} {v} {v'} go s = ∥∥₁_map s (λ (node, f, h). let r = go f.source node f h refl in (r.node', step m f call (told_place told), r.represents))
 
 -- a model of states, if there is one
 any_model : {S : Type 0} (p : PathOf S) → 0 < length p → Meaning S
@@ -120,31 +121,43 @@ any_model [] h = absurd (omega arith)
 any_model (x ∷ p) h = record { commands = λ c. true; readings = λ r. true; birth = λ r. x.state; move = λ s c r. s; score = λ s r. 0 }
 
 -- a cloud in the other phases has 1 to 256 particles
-pub particles : {S : Type 0} (node : ℕ → ℕ) (v : View S) (f : Filter S) → Represents node v f → (v.phase ≡ Empty → ⊥) → (1 ≤ v.n) × (v.n ≤ 256)
+pub particles : {S : Type 0} (node : ℕ → ℕ) (v : View S) (f : Filter S) → Represents node v f → (v.phase ≡ Empty → ⊥) → (1 ≤ length v.tips) × (length v.tips ≤ 256)
 particles node v f h living =
     let r : in_range (length f.paths) ≡ true = h.sound.particles_in_range (λ e. living (sym h.phase ∙ e)) in
     let b = and_parts (leb 1 (length f.paths)) (leb (length f.paths) 256) r in
     (omega (arith, leb-true 1 (length f.paths) b.0, h.number), omega (arith, leb-true (length f.paths) 256 b.1, h.number))
 
 -- a cloud with no particle is empty
-pub nobody : {S : Type 0} (node : ℕ → ℕ) (v : View S) (f : Filter S) → Represents node v f → v.phase ≡ Empty → v.n ≡ 0
+pub nobody : {S : Type 0} (node : ℕ → ℕ) (v : View S) (f : Filter S) → Represents node v f → v.phase ≡ Empty → length v.tips ≡ 0
 nobody node v f h e = sym h.number ∙ ap length (h.sound.nobody_while_empty (h.phase ∙ e))
 
-path_begun : {S : Type 0} (node : ℕ → ℕ) (v : View S) (f : Filter S) → Represents node v f → (i : ℕ) → i < v.n → 0 < length (get_or f.paths i [])
+-- a weighed cloud has a weight for each particle
+pub each_weighed : {S : Type 0} (v : View S) → SomeFilter v → v.phase ≡ Weighed → length v.weights ≡ length v.tips
+each_weighed v s e =
+    let same = λ (node : ℕ → ℕ) (f : Filter _) (h : Represents node v f). sym (ap length (h.weights e)) ∙ h.sound.each_weighed (h.phase ∙ e) ∙ h.number in
+    let low : length v.weights ≤ length v.tips = ∥∥₁_elim s le_prop (λ (node, f, h). omega (arith, same node f h)) in
+    let high : length v.tips ≤ length v.weights = ∥∥₁_elim s le_prop (λ (node, f, h). omega (arith, same node f h)) in
+    omega arith
+
+-- there are at most 256 particles
+pub few_particles : {S : Type 0} (v : View S) → SomeFilter v → (v.phase ≡ Empty → ⊥) → length v.tips ≤ 256
+few_particles v s living = ∥∥₁_elim s le_prop (λ (node, f, h). (particles node v f h living).1)
+
+path_begun : {S : Type 0} (node : ℕ → ℕ) (v : View S) (f : Filter S) → Represents node v f → (i : ℕ) → i < length v.tips → 0 < length (get_or f.paths i [])
 path_begun node v f h i l =
     let e : length (get_or f.paths i []) ≡ f.round + 1 = All-get_or (λ p. length p ≡ f.round + 1) f.paths i [] (omega (arith, h.number)) h.sound.paths_as_long_as_round in
     omega arith
 
 -- the same of a call that asks no model, while there are particles
-pub some_living : {S : Type 0} (call : Call) (told : Reply) (v v' : View S) (q q' : Supply) → Lawful q → (v.phase ≡ Empty → ⊥) → ((m : Meaning S) → Follows m call told v q v' q') → SomeFilter v → SomeFilter v'
-some_living {S} call told v v' q q' law living go s = ∥∥₁_map s (λ (node, f, h).
+pub some_living : {S : Type 0} {call : Call} {told : Reply} {v v' : View S} {q q' : Supply} → Lawful q → (v.phase ≡ Empty → ⊥) → ((m : Meaning S) → Follows m call told v q v' q') → SomeFilter v → SomeFilter v'
+some_living {S} {call} {told} {v} {v'} {q} {q'} law living go s = ∥∥₁_map s (λ (node, f, h).
     let m : Meaning S = any_model (get_or f.paths 0 []) (path_begun node v f h 0 (particles node v f h living).0) in
     let r = go m node (fed f q) (represents_fed node v f q law h) refl in
     (r.node', step m (fed f q) call (told_place told), r.represents))
 
 -- the same of a call that asks neither model nor source
-pub some_free : {S : Type 0} (call : Call) (told : Reply) (v v' : View S) → ((node : ℕ → ℕ) (f : Filter S) → Represents node v f → (p : PathOf S) × (0 < length p)) → ((m : Meaning S) (q : Supply) → Follows m call told v q v' q) → SomeFilter v → SomeFilter v'
-some_free {S} call told v v' find go s = ∥∥₁_map s (λ (node, f, h).
+pub some_free : {S : Type 0} {call : Call} {told : Reply} {v v' : View S} → ((node : ℕ → ℕ) (f : Filter S) → Represents node v f → (p : PathOf S) × (0 < length p)) → ((m : Meaning S) (q : Supply) → Follows m call told v q v' q) → SomeFilter v → SomeFilter v'
+some_free {S} {call} {told} {v} {v'} find go s = ∥∥₁_map s (λ (node, f, h).
     let p = find node f h in
     let m : Meaning S = any_model p.0 p.1 in
     let r = go m f.source node f h refl in
@@ -163,3 +176,8 @@ alike_stays ls ms ss ts serial serial' None None k x = x
 alike_stays ls ms ss ts serial serial' None (Some p) k x = x
 alike_stays ls ms ss ts serial serial' (Some n) None k x = x
 alike_stays ls ms ss ts serial serial' (Some n) (Some p) k x = k n p refl x
+
+-- a cloud put together again from its fields is the cloud
+pub same_cloud : {S : Type 0} (c : Cloud S) (r : SomeFilterOf c.forest.nodes.now c.forest.head c.forest.free c.tips.items c.weights.items c.holds c.phase c.round c.stamp)
+    → ◌≡◌ {A = Cloud S} (record { forest = c.forest; rest = c.rest; tips = c.tips; weights = c.weights; holds = c.holds; phase = c.phase; round = c.round; stamp = c.stamp; represented = r }) c
+same_cloud c r = λ j. record { forest = c.forest; rest = c.rest; tips = c.tips; weights = c.weights; holds = c.holds; phase = c.phase; round = c.round; stamp = c.stamp; represented = ∥∥₁_prop r c.represented j }

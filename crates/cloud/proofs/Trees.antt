@@ -1,5 +1,5 @@
 -- What the operations do to a tree.
-use Rattle.std.proofs.Common.{◌≡◌, ℕ, suc, ◌+◌, ◌-◌, ◌<◌, ◌≤◌, ◌≢◌, List, [], ◌∷◌, length, set, Some, None, sum_by, Option, sym, refl, ap, ◌∙◌, subst, ⊎_elim, arith}
+use Rattle.std.proofs.Common.{◌≡◌, ℕ, suc, ◌+◌, ◌-◌, ◌<◌, ◌≤◌, ◌≢◌, List, [], ◌∷◌, true, length, set, is_some, Some, None, sum_by, Option, sym, refl, ap, ◌∙◌, subst, ⊎_elim, arith}
 use mathlib.Core.Logic.{∥∥₁_elim}
 use mathlib.Core.HLevel.{⊥_prop}
 use Rattle.std.proofs.lemmas.List.Sums.{sum_by-set, get_or-le-sum_by}
@@ -223,8 +223,9 @@ head_free ls f free w serial issued t =
     let a : is_used (link_at ls f) ≡ 0 = omega (arith, t.listed f hc.2, o2, is_node_same f) in
     (hc.2, omega (arith, free_from_is_used (link_at ls f) a))
 
-pub some_tree_no_head : (ls : List Link) (head : Option ℕ) (free : ℕ) → SomeTree ls head free → head ≡ None → 0 < free → ⊥
-some_tree_no_head ls head free h e pos = ∥∥₁_elim h ⊥_prop (λ (w, serial, issued, t). omega (arith, no_head ls free w serial issued (subst (λ o. Tree ls o free w serial issued) e t)))
+pub some_tree_head : (ls : List Link) (head : Option ℕ) (free : ℕ) → SomeTree ls head free → 0 < free → is_some head ≡ true
+some_tree_head ls None free h pos = absurd (∥∥₁_elim h ⊥_prop (λ (w, serial, issued, t). omega (arith, no_head ls free w serial issued t)))
+some_tree_head ls (Some f) free h pos = refl
 
 pub some_tree_head_inside : (ls : List Link) (head : Option ℕ) (free f : ℕ) → SomeTree ls head free → head ≡ Some f → f < length ls
 some_tree_head_inside ls head free f h e = ∥∥₁_elim h le_prop (λ (w, serial, issued, t). (head_free ls f free w serial issued (subst (λ o. Tree ls o free w serial issued) e t)).0)

@@ -1,5 +1,5 @@
 -- The ancestry tree that lent nodes make. Assumes nothing.
-use Rattle.std.specs.Prelude.{ℕ, ◌+◌, List, take, sum_by}
+use Rattle.std.specs.Prelude.{ℕ, ◌+◌, List, sum_by}
 use Rattle.cloud.specs.declared.forest.Forest.{Forest}
 use Rattle.cloud.specs.Links.{Link, links, states}
 use Rattle.cloud.specs.Trees.{Tree, is_node, SomeTree, SomeTreeAt, SomeTreeAll}
@@ -39,14 +39,14 @@ HasMapAll f ns = SomeMapAll (links_of f) f.head f.free ns
 abbrev pub HasTreeFew : {S : Type 0} → Forest S → List ℕ → Type 0
 HasTreeFew f ns = SomeTreeFew (links_of f) f.head f.free ns
 
--- whatever tree the nodes were, i more were issued with no parent: they stand in the row, and their states are news
-abbrev pub Births : {S : Type 0} → Forest S → Forest S → List ℕ → (ℕ → S) → ℕ → Type 0
-Births f g row news i =
+-- whatever tree the nodes were, those of the row were issued besides, with no parent, and their states are news
+abbrev pub Births : {S : Type 0} → Forest S → Forest S → List ℕ → (ℕ → S) → Type 0
+Births f g row news =
     (w serial node : ℕ → ℕ) (issued : ℕ) → IsTree f w serial issued → Inverse (links_of f) serial node
-    → Born (links_of f) (links_of g) (states_of f) (states_of g) g.head g.free row news i w serial node issued
+    → Born (links_of f) (links_of g) (states_of f) (states_of g) g.head g.free row news w serial node issued
 
--- whatever tree the nodes were, in which things name the first n tips, i of these paths are longer by a node with a new state
-abbrev pub Longer : {S : Type 0} → Forest S → Forest S → List ℕ → List ℕ → (ℕ → S → S) → ℕ → ℕ → Type 0
-Longer f g tips row news n i =
-    (w serial node : ℕ → ℕ) (issued : ℕ) → IsTree f (λ k. w k + sum_by (is_node k) (take n tips)) serial issued → Inverse (links_of f) serial node
-    → Moved (links_of f) (links_of g) (states_of f) (states_of g) g.head g.free tips row news n i w serial node issued
+-- whatever tree the nodes were, in which things name the tips, the first i of these paths are longer by a node with a new state
+abbrev pub Longer : {S : Type 0} → Forest S → Forest S → List ℕ → List ℕ → (ℕ → S → S) → ℕ → Type 0
+Longer f g tips row news i =
+    (w serial node : ℕ → ℕ) (issued : ℕ) → IsTree f (λ k. w k + sum_by (is_node k) tips) serial issued → Inverse (links_of f) serial node
+    → Moved (links_of f) (links_of g) (states_of f) (states_of g) g.head g.free tips row news i w serial node issued

@@ -1,5 +1,5 @@
 -- When the parts of a cloud represent a reference filter. Assumes nothing.
-use Rattle.std.specs.Prelude.{◌≡◌, ℕ, ◌<◌, ◌≤◌, List, [], length, take, Some, None, Option, slice_index, slice_index_or}
+use Rattle.std.specs.Prelude.{◌≡◌, ℕ, ◌<◌, List, [], length, Some, None, Option, slice_index, slice_index_or}
 use Rattle.filter.specs.declared.phase.Phase.{Phase}
 use Rattle.filter.specs.declared.phase.Phase.TheVariants.{Weighed}
 use Rattle.filter.specs.Filters.{PathOf, Filter}
@@ -15,9 +15,8 @@ pub record View (S : Type 0) : Type 0 where
   pub nodes : List (Node S)
   pub head : Option ℕ
   pub free : ℕ
-  -- the newest node of each particle, in the front; how many particles there are; their weights, in the front
+  -- the newest node of each particle, and the particles' weights
   pub tips : List ℕ
-  pub n : ℕ
   pub weights : List ℕ
   -- the newest node of each open hold
   pub holds : List (Option ℕ)
@@ -38,12 +37,11 @@ pub record Represents {S : Type 0} (node : ℕ → ℕ) (v : View S) (f : Filter
   pub sound : Sound f
   -- the nodes are a tree, with serials that node takes back to them
   pub serial : ℕ → ℕ
-  pub tree : Tree (links v.nodes) v.head v.free (named v.tips v.n v.holds) serial f.issued
+  pub tree : Tree (links v.nodes) v.head v.free (named v.tips v.holds) serial f.issued
   pub inverse : Inverse (links v.nodes) serial node
   -- the paths of the particles and of the holds are the filter's
-  pub fit : v.n ≤ length v.tips
-  pub number : length f.paths ≡ v.n
-  pub paths_are : (i : ℕ) → i < v.n → Track (links v.nodes) (states v.nodes) serial (Some (slice_index v.tips i)) (slice_index_or f.paths i [])
+  pub number : length f.paths ≡ length v.tips
+  pub paths_are : (i : ℕ) → i < length v.tips → Track (links v.nodes) (states v.nodes) serial (Some (slice_index v.tips i)) (slice_index_or f.paths i [])
   pub sixteen : length v.holds ≡ 16
   pub places_are : (j : ℕ) → j < 16 → Alike (links v.nodes) (states v.nodes) serial (slice_index_or v.holds j None) (slice_index_or f.places j None)
   -- and so is the rest
@@ -51,13 +49,13 @@ pub record Represents {S : Type 0} (node : ℕ → ℕ) (v : View S) (f : Filter
   pub round : f.round ≡ v.round
   pub stamp : f.stamp ≡ v.stamp
   pub room : f.room ≡ length v.nodes
-  pub weights : v.phase ≡ Weighed → f.weights ≡ take v.n v.weights
+  pub weights : v.phase ≡ Weighed → f.weights ≡ v.weights
 
 -- the parts represent some filter
 abbrev pub SomeFilter : {S : Type 0} → View S → Type 0
 SomeFilter {S} v = ∥ ((node : ℕ → ℕ) × (f : Filter S) × Represents node v f) ∥₁
 
 -- the same, of the parts one by one
-abbrev pub SomeFilterOf : {S : Type 0} → List (Node S) → Option ℕ → ℕ → List ℕ → ℕ → List ℕ → List (Option ℕ) → Phase → ℕ → ℕ → Type 0
-SomeFilterOf nodes head free tips n weights holds phase round stamp =
-    SomeFilter (record { nodes = nodes; head = head; free = free; tips = tips; n = n; weights = weights; holds = holds; phase = phase; round = round; stamp = stamp })
+abbrev pub SomeFilterOf : {S : Type 0} → List (Node S) → Option ℕ → ℕ → List ℕ → List ℕ → List (Option ℕ) → Phase → ℕ → ℕ → Type 0
+SomeFilterOf nodes head free tips weights holds phase round stamp =
+    SomeFilter (record { nodes = nodes; head = head; free = free; tips = tips; weights = weights; holds = holds; phase = phase; round = round; stamp = stamp })

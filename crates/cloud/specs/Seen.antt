@@ -1,5 +1,5 @@
 -- What is seen of a cloud's nodes, and when a cloud shows the paths of a reference filter. Assumes nothing.
-use Rattle.std.specs.Prelude.{◌≡◌, ℕ, ◌<◌, true, cond, List, [], ◌∷◌, map, length, take, is_some, Some, None, count_by, Option, ◌==◌, slice_index, slice_index_or}
+use Rattle.std.specs.Prelude.{◌≡◌, ℕ, ◌<◌, true, cond, List, [], ◌∷◌, map, length, is_some, Some, None, count_by, Option, ◌==◌, slice_index, slice_index_or}
 use Rattle.std.specs.List.{AllByRecursion}
 use Rattle.sources.specs.Supplies.{Supply}
 use Rattle.filter.specs.declared.phase.Phase.TheVariants.{Weighed}
@@ -51,8 +51,8 @@ pub record Shows {S : Type 0} (node : ℕ → ℕ) (v : View S) (q : Supply) (f 
   pub each_serial_has_its_own_node : (a b : ℕ) → live a f ≡ true → live b f ≡ true → node a ≡ node b → a ≡ b
   pub no_other_node_is_in_use : (n : ℕ) (x : Seen S) → seen_at v.nodes n ≡ Some x → (s : ℕ) × (live s f ≡ true) × (node s ≡ n)
   -- particles and holds have the newest nodes of their paths
-  pub as_many_particles : length f.paths ≡ v.n
-  pub particles : (i : ℕ) → i < v.n → Newest node (slice_index v.tips i) (path f i)
+  pub as_many_particles : length f.paths ≡ length v.tips
+  pub particles : (i : ℕ) → i < length v.tips → Newest node (slice_index v.tips i) (path f i)
   pub sixteen_places : length v.holds ≡ 16
   pub places : (j : ℕ) → j < 16 → SamePlace node (slice_index_or v.holds j None) (slice_index_or f.places j None)
   -- and the rest is the filter's
@@ -60,5 +60,5 @@ pub record Shows {S : Type 0} (node : ℕ → ℕ) (v : View S) (q : Supply) (f 
   pub round : f.round ≡ v.round
   pub stamp : f.stamp ≡ v.stamp
   pub room : f.room ≡ length v.nodes
-  pub weights : v.phase ≡ Weighed → f.weights ≡ take v.n v.weights
+  pub weights : v.phase ≡ Weighed → f.weights ≡ v.weights
   pub source : f.source ≡ q

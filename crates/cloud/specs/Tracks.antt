@@ -1,5 +1,5 @@
 -- A path of the reference filter, read off the links and states of the ancestry tree. Assumes nothing.
-use Rattle.std.specs.Prelude.{◌≡◌, ℕ, ◌+◌, ◌<◌, ◌≤◌, List, [], ◌∷◌, length, take, Some, None, sum_by, Option, slice_index, slice_index_or}
+use Rattle.std.specs.Prelude.{◌≡◌, ℕ, ◌+◌, ◌<◌, ◌≤◌, List, [], ◌∷◌, length, Some, None, sum_by, Option, slice_index, slice_index_or}
 use Rattle.filter.specs.Filters.{Pair, PathOf}
 use Rattle.cloud.specs.Links.{Link, link_at}
 use Rattle.cloud.specs.Trees.{Tree, is_node, is_named}
@@ -10,9 +10,9 @@ Track ls ss serial o [] = o ≡ None
 Track {S} ls ss serial o (x ∷ p) =
     (n : ℕ) × (o ≡ Some n) × (n < length ls) × (serial n ≡ x.serial) × ((d : S) → slice_index_or ss n d ≡ x.state) × Track ls ss serial (link_at ls n).parent p
 
--- how many of the first n particles, and how many open holds, name node k
-abbrev pub named : List ℕ → ℕ → List (Option ℕ) → ℕ → ℕ
-named tips n holds k = sum_by (is_node k) (take n tips) + sum_by (λ o. is_named o k) holds
+-- how many particles, and how many open holds, name node k
+abbrev pub named : List ℕ → List (Option ℕ) → ℕ → ℕ
+named tips holds k = sum_by (is_node k) tips + sum_by (λ o. is_named o k) holds
 
 -- what o names, if anything, is named by a particle or a hold
 abbrev pub IsNamed : (ℕ → ℕ) → Option ℕ → Type 0
@@ -36,29 +36,29 @@ abbrev pub SomeTreeFew : List Link → Option ℕ → ℕ → List ℕ → Type 
 SomeTreeFew ls head free ns =
     ∥ ((w : ℕ → ℕ) × (serial : ℕ → ℕ) × (issued : ℕ) × Tree ls head free (λ k. w k + sum_by (is_node k) ns) serial issued × ((k : ℕ) → w k ≤ 65536)) ∥₁
 
--- i nodes were issued with no parent; they stand in the row, and their states are news
-pub record Born {S : Type 0} (ls ms : List Link) (ss ts : List S) (head : Option ℕ) (free : ℕ) (row : List ℕ) (news : ℕ → S) (i : ℕ) (w serial node : ℕ → ℕ) (issued : ℕ) : Type 0 where
+-- the nodes of the row were issued with no parent, one after another, and their states are news
+pub record Born {S : Type 0} (ls ms : List Link) (ss ts : List S) (head : Option ℕ) (free : ℕ) (row : List ℕ) (news : ℕ → S) (w serial node : ℕ → ℕ) (issued : ℕ) : Type 0 where
   pub serial' : ℕ → ℕ
   pub node' : ℕ → ℕ
   pub size : length ms ≡ length ls
-  pub tree : Tree ms head free (λ k. w k + sum_by (is_node k) (take i row)) serial' (issued + i)
+  pub tree : Tree ms head free (λ k. w k + sum_by (is_node k) row) serial' (issued + length row)
   pub inverse : Inverse ms serial' node'
   pub older : (s : ℕ) → s < issued → node' s ≡ node s
-  pub fresh : (s : ℕ) → issued ≤ s → s < issued + i → (link_at ls (node' s)).count ≡ 0
+  pub fresh : (s : ℕ) → issued ≤ s → s < issued + length row → (link_at ls (node' s)).count ≡ 0
   pub grows : (k : ℕ) → 0 < (link_at ls k).count → 0 < (link_at ms k).count
   pub stays : (o : Option ℕ) (p : PathOf S) → IsNamed w o → Track ls ss serial o p → Track ms ts serial' o p
-  pub born : (j : ℕ) → j < i → Track ms ts serial' (Some (slice_index row j)) (record { state = news j; serial = issued + j } ∷ [])
+  pub born : (j : ℕ) → j < length row → Track ms ts serial' (Some (slice_index row j)) (record { state = news j; serial = issued + j } ∷ [])
 
--- i of the first n paths, whose newest nodes were tips, are longer by a node; the row has their newest nodes, and news the new states
-pub record Moved {S : Type 0} (ls ms : List Link) (ss ts : List S) (head : Option ℕ) (free : ℕ) (tips row : List ℕ) (news : ℕ → S → S) (n i : ℕ) (w serial node : ℕ → ℕ) (issued : ℕ) : Type 0 where
+-- the first i of the paths whose newest nodes were tips are longer by a node; the row has their newest nodes, and news the new states
+pub record Moved {S : Type 0} (ls ms : List Link) (ss ts : List S) (head : Option ℕ) (free : ℕ) (tips row : List ℕ) (news : ℕ → S → S) (i : ℕ) (w serial node : ℕ → ℕ) (issued : ℕ) : Type 0 where
   pub serial' : ℕ → ℕ
   pub node' : ℕ → ℕ
   pub size : length ms ≡ length ls
-  pub tree : Tree ms head free (λ k. w k + sum_by (is_node k) (take n row)) serial' (issued + i)
+  pub tree : Tree ms head free (λ k. w k + sum_by (is_node k) row) serial' (issued + i)
   pub inverse : Inverse ms serial' node'
   pub older : (s : ℕ) → s < issued → node' s ≡ node s
   pub fresh : (s : ℕ) → issued ≤ s → s < issued + i → (link_at ls (node' s)).count ≡ 0
   pub grows : (k : ℕ) → 0 < (link_at ls k).count → 0 < (link_at ms k).count
   pub stays : (o : Option ℕ) (p : PathOf S) → IsNamed w o → Track ls ss serial o p → Track ms ts serial' o p
   pub longer : (j : ℕ) (x : Pair S) (p : PathOf S) → j < i → Track ls ss serial (Some (slice_index tips j)) (x ∷ p) → Track ms ts serial' (Some (slice_index row j)) (record { state = news j x.state; serial = issued + j } ∷ x ∷ p)
-  pub ahead : (j : ℕ) (p : PathOf S) → i ≤ j → j < n → Track ls ss serial (Some (slice_index tips j)) p → Track ms ts serial' (Some (slice_index row j)) p
+  pub ahead : (j : ℕ) (p : PathOf S) → i ≤ j → j < length row → Track ls ss serial (Some (slice_index tips j)) p → Track ms ts serial' (Some (slice_index row j)) p

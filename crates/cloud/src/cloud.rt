@@ -1,9 +1,9 @@
 // The cloud.
-ghost use Rattle.std.specs.Prelude.{◌≤◌};
 ghost use Rattle.cloud.specs.Representations.{SomeFilterOf};
 
 use crate::forest::Forest;
 use crate::node::Node;
+use arrayvec::ArrayVec;
 use filter::phase::Phase;
 
 // A particle filter: up to 256 particles, by the newest nodes of their paths, with 16 places for paths that are held.
@@ -12,13 +12,12 @@ pub struct Cloud<'a, S> {
     pub(crate) forest: Forest<'a, S>,
     // the lent nodes past those that the tree uses, which no call touches
     pub(crate) rest: &'a mut [Node<S>],
-    pub(crate) tips: [u16; 256],
-    pub(crate) n: usize,
-    pub(crate) weights: [u16; 256],
+    // the newest node of each particle
+    pub(crate) tips: ArrayVec<u16, 256>,
+    pub(crate) weights: ArrayVec<u16, 256>,
     pub(crate) holds: [Option<u16>; 16],
     pub(crate) phase: Phase,
     pub(crate) round: u32,
     pub(crate) stamp: u16,
-    ghost few: { n ≤ 256 },
-    ghost represented: { SomeFilterOf forest.nodes.now forest.head forest.free tips n weights holds phase round stamp },
+    ghost represented: { SomeFilterOf forest.nodes.now forest.head forest.free tips.items weights.items holds phase round stamp },
 }

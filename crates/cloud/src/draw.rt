@@ -14,47 +14,19 @@ pub(crate) fn next_number<R: Source>(source: &mut R) -> u32
     ensures rest { R.supply source.new ≡ after 1 (R.supply source.old) }
     ensures same { R.recorded source.new ≡ R.recorded source.old }
 {
-    let Ok(number) = source.draw() else {
-        unreachable()
-    };
-    number
+    source.draw().unwrap()
 }
 
-// The birth of the next number.
-pub(crate) fn next_birth<M: Model, R: Source>(model: &M, source: &mut R) -> M::State
-    requires { (R.supply source.old).can 1 ≡ true }
-    ensures value { result ≡ (M.meaning model.now).birth ((R.supply source.old).to_come 0) }
-    ensures rest { R.supply source.new ≡ after 1 (R.supply source.old) }
-    ensures same { R.recorded source.new ≡ R.recorded source.old }
+// The state moved under the command by the number; what is no state stays as it is.
+pub(crate) fn move_of<M: Model>(model: &M, state: M::State, command: u8, number: u32) -> M::State
+    ensures { result ≡ guarded_move M.State.State.kind (M.meaning model.now) state command number }
 {
-    model.birth(next_number(source))
-}
-
-// The state moved under the command by the next number; what is no state stays as it is.
-pub(crate) fn next_move<M: Model, R: Source>(
-    model: &M,
-    source: &mut R,
-    state: M::State,
-    command: u8,
-) -> M::State
-    requires { (R.supply source.old).can 1 ≡ true }
-    ensures value { result ≡ guarded_move M.State.State.kind (M.meaning model.now) state command ((R.supply source.old).to_come 0) }
-    ensures rest { R.supply source.new ≡ after 1 (R.supply source.old) }
-    ensures same { R.recorded source.new ≡ R.recorded source.old }
-{
-    let number = next_number(source);
-    let Ok(next) = model.advance(state, command, number) else {
-        return state;
-    };
-    next
+    model.advance(state, command, number).unwrap_or(state)
 }
 
 // The score of a state at the reading; what is no state has score 0.
 pub(crate) fn score_of<M: Model>(model: &M, state: M::State, reading: u8) -> u16
     ensures { result ≡ guarded_score M.State.State.kind (M.meaning model.now) state reading }
 {
-    let Ok(score) = model.score(state, reading) else {
-        return 0;
-    };
-    score
+    model.score(state, reading).unwrap_or(0)
 }

@@ -1,5 +1,5 @@
 // The ancestry tree over lent memory.
-ghost use Rattle.std.specs.Prelude.{◌≡◌, ℕ, ◌+◌, ◌-◌, ◌^◌, ◌<◌, ◌≤◌, true, length, take, min, Some, None, sum_by, slice_index, slice_index_or, slice_set};
+ghost use Rattle.std.specs.Prelude.{◌≡◌, ℕ, ◌+◌, ◌-◌, ◌^◌, ◌<◌, ◌≤◌, true, map, length, min, Some, None, sum_by, slice_index, slice_index_or, slice_set};
 ghost use Rattle.cloud.specs.Links.{link_at, linked, raised, Kept};
 ghost use Rattle.cloud.specs.Trees.{Tree, is_node, is_named, with_serial};
 ghost use Rattle.sources.specs.Supplies.{after};
@@ -8,9 +8,10 @@ ghost use Rattle.cloud.specs.Guards.{guarded_move, guarded_score};
 ghost use Rattle.cloud.specs.Tracks.{Inverse};
 ghost use Rattle.cloud.specs.Forests.{links_of, states_of, IsTree, HasTree, HasTreeAt, HasTreeAll, HasMap, HasMapAll, HasTreeFew, Births, Longer};
 
-use crate::draw::{next_birth, next_move, score_of};
+use crate::draw::{move_of, next_number, score_of};
 use crate::node::{Node, state_of};
 use crate::tree::{issue, make_free, release, retain};
+use arrayvec::ArrayVec;
 use models::model::Model;
 use models::state::State;
 use sources::Source;
@@ -28,9 +29,8 @@ pub(crate) fn make<S>(nodes: &mut [Node<S>]) -> Forest<S>
     ensures size { length result.nodes.now ≡ min (length nodes.old) 65536 }
     ensures tree { (serial : ℕ → ℕ) → IsTree result (λ _. 0) serial 0 }
 {
-    let all = nodes.len();
-    let n = if all < 65536 { all } else { 65536 };
-    let part = &mut nodes[0..n];
+    let n = nodes.len().min(65536);
+    let part = &mut nodes[..n];
     let head = make_free(part);
     Forest {
         nodes: part,
@@ -79,9 +79,8 @@ impl<S: Copy> Forest<'_, S> {
         ensures tree { (w serial : ℕ → ℕ) (issued : ℕ) → IsTree self.old (λ k. w k + sum_by (is_node k) named.now) serial issued → IsTree self.new w serial issued }
     {
         let mut freed = 0;
-        for i in 0..named.len() {
-            let node = named[i];
-            freed += self.release(node);
+        for node in named {
+            freed += self.release(*node);
         }
         freed
     }
@@ -98,133 +97,123 @@ impl<S: Copy> Forest<'_, S> {
         ensures fresh { (link_at (links_of self.old) result).count ≡ 0 }
         ensures tree { (w serial : ℕ → ℕ) (issued : ℕ) → IsTree self.old (λ n. w n + is_named parent n) serial issued → IsTree self.new (λ n. w n + is_node n result) (with_serial serial result issued) (issued + 1) }
     {
-        let Some(node) = self.head else { unreachable() };
+        let node = self.head.unwrap();
         let next = issue(self.nodes, node, state, parent);
         self.head = next;
         self.free -= 1;
         node
     }
 
-    // So many nodes with no parent, each with the birth of a number of its own, into the front of the row.
+    // So many nodes with no parent, each with the birth of a number of its own.
     pub(crate) fn issue_births<M: Model<State = S>, R: Source>(
         &mut self,
         model: &M,
         source: &mut R,
-        row: &mut [u16; 256],
         n: usize,
-    )
+    ) -> ArrayVec<u16, 256>
         requires few { n ≤ 256 }
         requires room { n ≤ self.old.free }
         requires map { HasMap self.old }
         requires supplied { (R.supply source.old).can n ≡ true }
+        ensures number { length result.items ≡ n }
         ensures rest { R.supply source.new ≡ after n (R.supply source.old) }
         ensures same { R.recorded source.new ≡ R.recorded source.old }
         ensures free { self.new.free + n ≡ self.old.free }
-        ensures born { Births self.old self.new row.new (λ k. (M.meaning model.now).birth ((R.supply source.old).to_come k)) n }
+        ensures born { Births self.old self.new result.items (λ k. (M.meaning model.now).birth ((R.supply source.old).to_come k)) }
     {
-        for i in 0..n {
-            let state = next_birth(model, source);
-            let node = self.issue(state, None);
-            row[i] = node;
+        let mut tips = ArrayVec::new();
+        for _ in 0..n {
+            let state = model.birth(next_number(source));
+            tips.push(self.issue(state, None));
         }
+        tips
     }
 
-    // A node more on each of the first n paths of the row, with the move of its newest state by a number of its own.
+    // A node more on each path, with the move of its newest state by a number of its own.
     pub(crate) fn issue_moves<M: Model<State = S>, R: Source>(
         &mut self,
         model: &M,
         source: &mut R,
         command: u8,
-        row: &mut [u16; 256],
-        n: usize,
+        tips: &mut [u16],
     )
-        requires few { n ≤ 256 }
-        requires room { n ≤ self.old.free }
-        requires map { HasMapAll self.old (take n row.old) }
-        requires supplied { (R.supply source.old).can n ≡ true }
-        ensures rest { R.supply source.new ≡ after n (R.supply source.old) }
+        requires room { length tips.old ≤ self.old.free }
+        requires map { HasMapAll self.old tips.old }
+        requires supplied { (R.supply source.old).can (length tips.old) ≡ true }
+        ensures rest { R.supply source.new ≡ after (length tips.old) (R.supply source.old) }
         ensures same { R.recorded source.new ≡ R.recorded source.old }
-        ensures free { self.new.free + n ≡ self.old.free }
-        ensures moved { Longer self.old self.new row.old row.new (λ k s. guarded_move S.State.kind (M.meaning model.now) s command ((R.supply source.old).to_come k)) n n }
+        ensures free { self.new.free + length tips.old ≡ self.old.free }
+        ensures moved { Longer self.old self.new tips.old tips.new (λ k s. guarded_move S.State.kind (M.meaning model.now) s command ((R.supply source.old).to_come k)) (length tips.old) }
     {
-        for i in 0..n {
-            let parent = row[i];
+        for tip in tips.iter_mut() {
+            let parent = *tip;
             let old = state_of(self.nodes, parent);
-            let state = next_move(model, source, old, command);
-            let node = self.issue(state, Some(parent));
-            row[i] = node;
+            let state = move_of(model, old, command, next_number(source));
+            *tip = self.issue(state, Some(parent));
         }
     }
 
-    // The score of the newest state of each of the first n paths, into the front of the weights; their total.
+    // The score of the newest state of each path; their total.
     pub(crate) fn score_tips<M: Model<State = S>>(
         &mut self,
         model: &M,
         reading: u8,
-        tips: &[u16; 256],
-        weights: &mut [u16; 256],
-        n: usize,
+        tips: &[u16],
+        weights: &mut ArrayVec<u16, 256>,
     ) -> u32
-        requires few { n ≤ 256 }
-        requires inside { (i : ℕ) → i < n → slice_index tips.now i < length self.old.nodes.now }
+        requires few { length tips.now ≤ 256 }
+        requires inside { (i : ℕ) → i < length tips.now → slice_index tips.now i < length self.old.nodes.now }
         ensures same { self.new ≡ self.old }
-        ensures scores { (i : ℕ) (d : S) → i < n → slice_index weights.new i ≡ guarded_score S.State.kind (M.meaning model.now) (slice_index_or (states_of self.old) (slice_index tips.now i) d) reading }
-        ensures sum { result ≡ total (take n weights.new) }
+        ensures number { length weights.new.items ≡ length tips.now }
+        ensures scores { (i : ℕ) (d : S) → i < length tips.now → slice_index weights.new.items i ≡ guarded_score S.State.kind (M.meaning model.now) (slice_index_or (states_of self.old) (slice_index tips.now i) d) reading }
+        ensures sum { result ≡ total weights.new.items }
     {
         let mut sum = 0;
-        for i in 0..n {
-            let tip = tips[i];
-            let state = state_of(self.nodes, tip);
+        weights.clear();
+        for tip in tips {
+            let state = state_of(self.nodes, *tip);
             let weight = score_of(model, state, reading);
-            weights[i] = weight;
+            weights.push(weight);
             sum += u32::from(weight);
         }
         sum
     }
 
-    // The node of each of the first n parents is named once more; these nodes, into the front of the row.
-    pub(crate) fn retain_parents(
-        &mut self,
-        old: &[u16; 256],
-        parents: &[u32; 256],
-        row: &mut [u16; 256],
-        n: usize,
-    )
-        requires few { n ≤ 256 }
-        requires below { (k : ℕ) → k < n → slice_index parents.now k < n }
-        requires tree { HasTreeFew self.old (take n old.now) }
+    // The node of each parent is named once more; these nodes.
+    fn retain_parents(&mut self, old: &[u16], parents: &[u32]) -> ArrayVec<u16, 256>
+        requires few { length old.now ≤ 256 }
+        requires fits { length parents.now ≤ 256 }
+        requires below { (k : ℕ) → k < length parents.now → slice_index parents.now k < length old.now }
+        requires tree { HasTreeFew self.old old.now }
         ensures kept { states_of self.new ≡ states_of self.old }
         ensures frame { Kept (links_of self.old) (links_of self.new) }
         ensures free { self.new.free ≡ self.old.free }
-        ensures row { (k : ℕ) → k < n → slice_index row.new k ≡ slice_index old.now (slice_index parents.now k) }
-        ensures tree { (w serial : ℕ → ℕ) (issued : ℕ) → IsTree self.old w serial issued → IsTree self.new (λ k. w k + sum_by (is_node k) (take n row.new)) serial issued }
+        ensures children { result.items ≡ map (slice_index old.now) parents.now }
+        ensures tree { (w serial : ℕ → ℕ) (issued : ℕ) → IsTree self.old w serial issued → IsTree self.new (λ k. w k + sum_by (is_node k) result.items) serial issued }
     {
-        for i in 0..n {
-            let parent = parents[i] as usize;
-            let node = old[parent];
+        let mut children = ArrayVec::new();
+        for parent in parents {
+            let node = old[*parent as usize];
             self.retain(node);
-            row[i] = node;
+            children.push(node);
         }
+        children
     }
 
-    // The nodes of the first n parents take the place of the old ones; how many nodes were freed.
-    pub(crate) fn resettle(
-        &mut self,
-        old: &[u16; 256],
-        parents: &[u32; 256],
-        row: &mut [u16; 256],
-        n: usize,
-    ) -> u32
-        requires few { n ≤ 256 }
-        requires below { (k : ℕ) → k < n → slice_index parents.now k < n }
-        requires tree { HasTreeFew self.old (take n old.now) }
+    // The nodes of the parents take the place of the tips; how many nodes were freed.
+    pub(crate) fn resettle(&mut self, tips: &mut ArrayVec<u16, 256>, parents: &[u32]) -> u32
+        requires fits { length parents.now ≤ 256 }
+        requires below { (k : ℕ) → k < length parents.now → slice_index parents.now k < length tips.old.items }
+        requires tree { HasTreeFew self.old tips.old.items }
         ensures kept { states_of self.new ≡ states_of self.old }
         ensures frame { Kept (links_of self.old) (links_of self.new) }
         ensures freed { self.new.free ≡ self.old.free + result }
-        ensures row { (k : ℕ) → k < n → slice_index row.new k ≡ slice_index old.now (slice_index parents.now k) }
-        ensures tree { (w serial : ℕ → ℕ) (issued : ℕ) → IsTree self.old (λ k. w k + sum_by (is_node k) (take n old.now)) serial issued → IsTree self.new (λ k. w k + sum_by (is_node k) (take n row.new)) serial issued }
+        ensures children { tips.new.items ≡ map (slice_index tips.old.items) parents.now }
+        ensures tree { (w serial : ℕ → ℕ) (issued : ℕ) → IsTree self.old (λ k. w k + sum_by (is_node k) tips.old.items) serial issued → IsTree self.new (λ k. w k + sum_by (is_node k) tips.new.items) serial issued }
     {
-        self.retain_parents(old, parents, row, n);
-        self.release_all(&old[0..n])
+        let children = self.retain_parents(tips, parents);
+        let freed = self.release_all(tips);
+        *tips = children;
+        freed
     }
 }

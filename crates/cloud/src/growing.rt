@@ -26,9 +26,8 @@ impl<S: State> Cloud<'_, S> {
         ensures steps { Steps S.State.kind (M.meaning model.now) (to_start n) (told result) (view self.old) (R.supply source.old) (view self.new) (R.supply source.new) }
         ensures runs { GoesOn S.State.kind (M.meaning model.now) (to_start n) (told result) (view self.old) (R.supply source.old) (view self.new) (R.supply source.new) }
     {
-        match self.phase {
-            Phase::Empty => {}
-            _ => return Err(Refusal::WrongPhase),
+        if self.phase != Phase::Empty {
+            return Err(Refusal::WrongPhase);
         }
         if n < 1 || n > 256 {
             return Err(Refusal::OutOfRange);
@@ -40,10 +39,7 @@ impl<S: State> Cloud<'_, S> {
         if !source.can_draw(n as u32) {
             return Err(Refusal::SourceDry);
         }
-        let mut row = self.tips;
-        self.forest.issue_births(model, source, &mut row, many);
-        self.tips = row;
-        self.n = many;
+        self.tips = self.forest.issue_births(model, source, many);
         self.round = 0;
         self.phase = Phase::Level;
         Ok(Change {
@@ -65,23 +61,21 @@ impl<S: State> Cloud<'_, S> {
         ensures steps { Steps S.State.kind (M.meaning model.now) (to_advance command) (told result) (view self.old) (R.supply source.old) (view self.new) (R.supply source.new) }
         ensures runs { GoesOn S.State.kind (M.meaning model.now) (to_advance command) (told result) (view self.old) (R.supply source.old) (view self.new) (R.supply source.new) }
     {
-        match self.phase {
-            Phase::Level => {}
-            _ => return Err(Refusal::WrongPhase),
+        if self.phase != Phase::Level {
+            return Err(Refusal::WrongPhase);
         }
         if !model.knows_command(command) {
             return Err(Refusal::Unknown);
         }
-        let n = self.n;
+        let n = self.tips.len();
         if self.forest.free < n {
             return Err(Refusal::NoNodesLeft);
         }
         if !source.can_draw(n as u32) {
             return Err(Refusal::SourceDry);
         }
-        let mut row = self.tips;
-        self.forest.issue_moves(model, source, command, &mut row, n);
-        self.tips = row;
+        self.forest
+            .issue_moves(model, source, command, &mut self.tips);
         self.round += 1;
         Ok(Change {
             issued: n as u32,

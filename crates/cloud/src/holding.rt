@@ -13,15 +13,17 @@ use filter::phase::Phase;
 use refusals::Refusal;
 
 // The first closed place.
-fn first_closed(holds: &[Option<u16>; 16]) -> Option<u8>
+fn first_closed(holds: &[Option<u16>; 16]) -> Option<usize>
     ensures { MatchOption result ((k : ℕ) → k < 16 → slice_index_or holds.now k None ≢ None) (λ p. (p < 16) × (slice_index_or holds.now p None ≡ None)) }
 {
-    for i in 0..16u8 {
-        if holds[i as usize].is_none() {
-            return Some(i);
-        }
-    }
-    None
+    holds.iter().position(|place| place.is_none())
+}
+
+// The node at which the place is open, if it is.
+fn node_in(holds: &[Option<u16>; 16], place: u8) -> Option<u16>
+    ensures { result ≡ slice_index_or holds.now place None }
+{
+    holds.get(place as usize).copied().flatten()
 }
 
 impl<S: Copy> Cloud<'_, S> {
@@ -32,24 +34,21 @@ impl<S: Copy> Cloud<'_, S> {
         ensures steps { (k : Kind S) (m : Meaning S) (q : Supply) → Steps k m (to_hold particle) (told_held result) (view self.old) q (view self.new) q }
         ensures runs { (k : Kind S) (m : Meaning S) (q : Supply) → GoesOn k m (to_hold particle) (told_held result) (view self.old) q (view self.new) q }
     {
-        match self.phase {
-            Phase::Empty => return Err(Refusal::WrongPhase),
-            _ => {}
+        if self.phase == Phase::Empty {
+            return Err(Refusal::WrongPhase);
         }
-        let i = particle as usize;
-        if i >= self.n {
+        let Some(&node) = self.tips.get(particle as usize) else {
             return Err(Refusal::OutOfRange);
-        }
+        };
         let Some(place) = first_closed(&self.holds) else {
             return Err(Refusal::NoPlaceLeft);
         };
-        let node = self.tips[i];
         self.forest.retain(node);
-        self.holds[place as usize] = Some(node);
+        self.holds[place] = Some(node);
         Ok(Held {
             hold: Hold {
                 stamp: self.stamp,
-                place,
+                place: place as u8,
             },
             change: Change {
                 issued: 0,
@@ -65,17 +64,13 @@ impl<S: Copy> Cloud<'_, S> {
         ensures steps { (k : Kind S) (m : Meaning S) (q : Supply) → Steps k m (to_give_back hold.stamp hold.place) (told_back result) (view self.old) q (view self.new) q }
         ensures runs { (k : Kind S) (m : Meaning S) (q : Supply) → GoesOn k m (to_give_back hold.stamp hold.place) (told_back result) (view self.old) q (view self.new) q }
     {
-        let place = hold.place as usize;
         if hold.stamp != self.stamp {
             return Err((Refusal::NotHeld, hold));
         }
-        if place >= 16 {
-            return Err((Refusal::NotHeld, hold));
-        }
-        let held = self.holds[place];
-        let Some(node) = held else {
+        let Some(node) = node_in(&self.holds, hold.place) else {
             return Err((Refusal::NotHeld, hold));
         };
+        let place = hold.place as usize;
         let Hold { stamp: _, place: _ } = hold;
         self.holds[place] = None;
         let freed = self.forest.release(node);
@@ -89,14 +84,11 @@ impl<S: Copy> Cloud<'_, S> {
         ensures steps { (k : Kind S) (m : Meaning S) (q : Supply) → Steps k m to_finish (told result) (view self.old) q (view self.new) q }
         ensures runs { (k : Kind S) (m : Meaning S) (q : Supply) → GoesOn k m to_finish (told result) (view self.old) q (view self.new) q }
     {
-        match self.phase {
-            Phase::Empty => return Err(Refusal::WrongPhase),
-            _ => {}
+        if self.phase == Phase::Empty {
+            return Err(Refusal::WrongPhase);
         }
-        let n = self.n;
-        let old = self.tips;
-        let freed = self.forest.release_all(&old[0..n]);
-        self.n = 0;
+        let freed = self.forest.release_all(&self.tips);
+        self.tips.clear();
         self.phase = Phase::Empty;
         Ok(Change { issued: 0, freed })
     }

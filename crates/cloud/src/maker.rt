@@ -6,6 +6,7 @@ ghost use Rattle.cloud.specs.Views.{view};
 use crate::cloud::Cloud;
 use crate::forest::make;
 use crate::node::Node;
+use arrayvec::ArrayVec;
 use filter::phase::Phase;
 
 const MOST_NODES: usize = 65536;
@@ -16,16 +17,14 @@ impl<S: Copy> Cloud<'_, S> {
         ensures begins { Begins (length nodes.old) stamp (view result) }
         ensures rest { result.rest.now ≡ drop 65536 nodes.old }
     {
-        let all = nodes.len();
-        let used = if all < MOST_NODES { all } else { MOST_NODES };
+        let used = nodes.len().min(MOST_NODES);
         let (front, rest) = nodes.split_at_mut(used);
         let forest = make(front);
         Cloud {
             forest,
             rest,
-            tips: [0; 256],
-            n: 0,
-            weights: [0; 256],
+            tips: ArrayVec::new(),
+            weights: ArrayVec::new(),
             holds: [None; 16],
             phase: Phase::Empty,
             round: 0,

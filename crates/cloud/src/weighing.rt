@@ -30,20 +30,15 @@ impl<S: State> Cloud<'_, S> {
         ensures steps { (q : Supply) → Steps S.State.kind (M.meaning model.now) (to_weigh reading) (told_weighing result) (view self.old) q (view self.new) q }
         ensures runs { (q : Supply) → GoesOn S.State.kind (M.meaning model.now) (to_weigh reading) (told_weighing result) (view self.old) q (view self.new) q }
     {
-        match self.phase {
-            Phase::Level => {}
-            _ => return Err(Refusal::WrongPhase),
+        if self.phase != Phase::Level {
+            return Err(Refusal::WrongPhase);
         }
         if !model.knows_reading(reading) {
             return Err(Refusal::Unknown);
         }
-        let n = self.n;
-        let tips = self.tips;
-        let mut weights = self.weights;
         let total = self
             .forest
-            .score_tips(model, reading, &tips, &mut weights, n);
-        self.weights = weights;
+            .score_tips(model, reading, &self.tips, &mut self.weights);
         self.phase = Phase::Weighed;
         Ok(Weighing {
             total,
@@ -62,25 +57,17 @@ impl<S: State> Cloud<'_, S> {
         ensures steps { (k : Kind S) (m : Meaning S) → Steps k m to_resample (told result) (view self.old) (R.supply source.old) (view self.new) (R.supply source.new) }
         ensures runs { (k : Kind S) (m : Meaning S) → GoesOn k m to_resample (told result) (view self.old) (R.supply source.old) (view self.new) (R.supply source.new) }
     {
-        match self.phase {
-            Phase::Weighed => {}
-            _ => return Err(Refusal::WrongPhase),
+        if self.phase != Phase::Weighed {
+            return Err(Refusal::WrongPhase);
         }
         if !source.can_draw(1) {
             return Err(Refusal::SourceDry);
         }
-        let n = self.n;
-        let weights = self.weights;
-        total_weight(&weights[0..n])?;
+        total_weight(&self.weights)?;
         let number = next_number(source);
         let mut parents = [0; 256];
-        let Ok(_) = write_parents(&weights[0..n], number, &mut parents) else {
-            unreachable()
-        };
-        let old = self.tips;
-        let mut row = self.tips;
-        let freed = self.forest.resettle(&old, &parents, &mut row, n);
-        self.tips = row;
+        let n = write_parents(&self.weights, number, &mut parents).unwrap();
+        let freed = self.forest.resettle(&mut self.tips, &parents[..n]);
         self.phase = Phase::Level;
         Ok(Change { issued: 0, freed })
     }

@@ -1,62 +1,62 @@
-use Rattle.std.proofs.Common.{refl, arith}
+use Rattle.std.proofs.Common.{◌+◌, ◌^◌, ◌<◌, ◌≤◌, length, get_or, sym, refl, ap, ◌∙◌, subst, arith, rules}
 use Rattle.sources.specs.Supplies.{Supply}
 use Rattle.models.specs.Meanings.{Meaning}
-use Rattle.filter.specs.Calls.{hold}
-use Rattle.filter.specs.Replies.{done, held}
-use Rattle.cloud.specs.Representations.{View}
-use Rattle.cloud.specs.Promises.{Follows}
+use Rattle.cloud.specs.Links.{link_at}
+use Rattle.cloud.specs.Forests.{links_of}
 use Rattle.cloud.specs.Views.{view}
 use Rattle.cloud.proofs.Going.{promised}
-use Rattle.cloud.proofs.Retaining.{held_view, hold_inside, hold_used, hold_room, hold_wrong_phase, hold_out_of_range, hold_no_place, hold_granted}
-use Rattle.cloud.proofs.Stepping.{some_free, living_path}
+use Rattle.cloud.proofs.Retaining.{hold_inside, hold_used, hold_room, hold_wrong_phase, hold_out_of_range, hold_no_place, hold_granted}
+use Rattle.cloud.proofs.Stepping.{some_free, living_path, few_particles, same_cloud}
 use Rattle.cloud.proofs.cloud.Cloud.hold.Goals as goal
 
-pub returns-in-Empty : goal.returns-in-Empty
-returns-in-Empty g c =
-    let go : (m : Meaning g.row.S.Denot) (q : Supply) → Follows m (hold c.args.particle) _ (view c.args.self.now) q (view c.args.self.now) q
-    = λ m q. hold_wrong_phase m q (view c.args.self.now) c.args.particle c.in-Empty.is in
-    record { same = refl; rest = refl; steps = λ k m q. (promised k m _ _ _ _ _ _ (go m q)).0; runs = λ k m q. (promised k m _ _ _ _ _ _ (go m q)).1 }
+pub returns-then-eq : goal.returns-then-eq
+returns-then-eq g c = record {
+  same = same_cloud _ _;
+  rest = refl;
+  steps = λ k m q. (promised k (hold_wrong_phase m q (view c.args.self.now) c.args.particle (search rules))).0;
+  runs = λ k m q. (promised k (hold_wrong_phase m q (view c.args.self.now) c.args.particle (search rules))).1;
+}
 
-pub returns-then-i-self : goal.returns-then-i-self
-returns-then-i-self g c =
-    let go : (m : Meaning g.row.S.Denot) (q : Supply) → Follows m (hold c.args.particle) _ (view c.args.self.now) q (view c.args.self.now) q
-    = λ m q. hold_out_of_range m q (view c.args.self.now) c.args.particle c.in_default.not-Empty (omega arith) in
-    record { same = refl; rest = refl; steps = λ k m q. (promised k m _ _ _ _ _ _ (go m q)).0; runs = λ k m q. (promised k m _ _ _ _ _ _ (go m q)).1 }
+pub returns-in_default : goal.returns-in_default
+returns-in_default g c =
+    let beyond : length c.args.self.now.tips.items ≤ c.args.particle = omega (arith, c.in_default.ensures.lookup.3, ap length c.deref.ensures.0) in
+    record {
+      same = refl;
+      rest = refl;
+      steps = λ k m q. (promised k (hold_out_of_range m q (view c.args.self.now) c.args.particle (search rules) beyond)).0;
+      runs = λ k m q. (promised k (hold_out_of_range m q (view c.args.self.now) c.args.particle (search rules) beyond)).1;
+    }
 
 pub returns-in_default-first_closed : goal.returns-in_default-first_closed
 returns-in_default-first_closed g c =
-    let go : (m : Meaning g.row.S.Denot) (q : Supply) → Follows m (hold c.args.particle) _ (view c.args.self.now) q (view c.args.self.now) q
-    = λ m q. hold_no_place m q (view c.args.self.now) c.args.particle c.in_default.not-Empty (omega arith) c.in_default-first_closed.ensures in
-    record { same = refl; rest = refl; steps = λ k m q. (promised k m _ _ _ _ _ _ (go m q)).0; runs = λ k m q. (promised k m _ _ _ _ _ _ (go m q)).1 }
+    let inside : c.args.particle < length c.args.self.now.tips.items = omega (arith, c.in-Some.ensures.lookup.3.0, ap length c.deref.ensures.0) in
+    record {
+      same = refl;
+      rest = refl;
+      steps = λ k m q. (promised k (hold_no_place m q (view c.args.self.now) c.args.particle (search rules) inside c.in_default-first_closed.ensures)).0;
+      runs = λ k m q. (promised k (hold_no_place m q (view c.args.self.now) c.args.particle (search rules) inside c.in_default-first_closed.ensures)).1;
+    }
 
 pub retain-requires : goal.retain-requires
 retain-requires g c =
     let v = view c.args.self.now in
+    let inside : c.args.particle < length c.args.self.now.tips.items = omega (arith, c.in-Some.ensures.lookup.3.0, ap length c.deref.ensures.0) in
+    let few = few_particles v c.args.self.now.represented (search rules) in
+    let is = (ap (λ us. get_or us c.args.particle 0) (sym c.deref.ensures.0) ∙ sym (c.in-Some.ensures.lookup.3.1 0)) in
     record {
-      within = hold_inside v c.args.self.now.represented c.args.particle (omega arith) c.args.self.now.few;
-      used = hold_used v c.args.self.now.represented c.args.particle (omega arith) c.args.self.now.few;
-      room = hold_room v c.args.self.now.represented c.args.particle (omega arith) c.args.self.now.few;
+      within = subst (λ k. k < length c.args.self.now.forest.nodes.now) is (hold_inside v c.args.self.now.represented c.args.particle inside few);
+      used = subst (λ k. 0 < (link_at (links_of c.args.self.now.forest) k).count) is (hold_used v c.args.self.now.represented c.args.particle inside few);
+      room = subst (λ k. (link_at (links_of c.args.self.now.forest) k).count + 1 < 2 ^ 32) is (hold_room v c.args.self.now.represented c.args.particle inside few);
     }
 
 pub invariant_of-self : goal.invariant_of-self
 invariant_of-self g c =
-    let v = view c.args.self.now in
-    let i = c.args.particle in
-    let p = c.in-Some.place in
-    let v' : View g.row.S.Denot = held_view v c.args.particle c.in-Some.place c.retain.new.self.nodes.now c.retain.new.self.head c.retain.new.self.free in
-    let go : (m : Meaning g.row.S.Denot) (q : Supply) → Follows m (hold c.args.particle) (done 0 0 (held c.args.self.now.stamp c.in-Some.place)) (view c.args.self.now) q v' q
-    = λ m q. hold_granted m q v i c.in_default.not-Empty (omega arith) v' p c.in-Some.ensures.0 c.in-Some.ensures.1 refl refl refl refl refl refl refl c.retain.ensures.free c.retain.ensures.kept c.retain.ensures.frame c.retain.ensures.tree c.args.self.now.stamp refl in
-    record {
-      few = c.args.self.now.few;
-      represented = some_free (hold c.args.particle) (done 0 0 (held c.args.self.now.stamp c.in-Some.place)) v v' (living_path v c.in_default.not-Empty) go c.args.self.now.represented;
-    }
+    let kept = c.retain.new.self in
+    let go = λ (m : Meaning g.row.S.Denot) (q : Supply). hold_granted m q (view c.args.self.now) c.args.particle (search rules) (omega (arith, c.in-Some.ensures.lookup.3.0, ap length c.deref.ensures.0)) c.in-Some.field-0.now (ap (λ us. get_or us c.args.particle 0) (sym c.deref.ensures.0) ∙ sym (c.in-Some.ensures.lookup.3.1 0)) c.in-Some-first_closed.place c.in-Some-first_closed.ensures.0 c.in-Some-first_closed.ensures.1 kept.nodes.now kept.head kept.free c.retain.ensures.free c.retain.ensures.kept c.retain.ensures.frame c.retain.ensures.tree c.args.self.now.stamp refl in
+    record { represented = some_free (living_path (view c.args.self.now) (search rules)) go c.args.self.now.represented }
 
 pub returns : goal.returns
 returns g c =
-    let v = view c.args.self.now in
-    let i = c.args.particle in
-    let p = c.in-Some.place in
-    let v' : View g.row.S.Denot = held_view v c.args.particle c.in-Some.place c.retain.new.self.nodes.now c.retain.new.self.head c.retain.new.self.free in
-    let go : (m : Meaning g.row.S.Denot) (q : Supply) → Follows m (hold c.args.particle) (done 0 0 (held c.args.self.now.stamp c.in-Some.place)) (view c.args.self.now) q v' q
-    = λ m q. hold_granted m q v i c.in_default.not-Empty (omega arith) v' p c.in-Some.ensures.0 c.in-Some.ensures.1 refl refl refl refl refl refl refl c.retain.ensures.free c.retain.ensures.kept c.retain.ensures.frame c.retain.ensures.tree c.args.self.now.stamp refl in
-    record { same = refl; rest = refl; steps = λ k m q. (promised k m _ _ _ _ _ _ (go m q)).0; runs = λ k m q. (promised k m _ _ _ _ _ _ (go m q)).1 }
+    let kept = c.retain.new.self in
+    let go = λ (m : Meaning g.row.S.Denot) (q : Supply). hold_granted m q (view c.args.self.now) c.args.particle (search rules) (omega (arith, c.in-Some.ensures.lookup.3.0, ap length c.deref.ensures.0)) c.in-Some.field-0.now (ap (λ us. get_or us c.args.particle 0) (sym c.deref.ensures.0) ∙ sym (c.in-Some.ensures.lookup.3.1 0)) c.in-Some-first_closed.place c.in-Some-first_closed.ensures.0 c.in-Some-first_closed.ensures.1 kept.nodes.now kept.head kept.free c.retain.ensures.free c.retain.ensures.kept c.retain.ensures.frame c.retain.ensures.tree c.args.self.now.stamp refl in
+    record { same = refl; rest = refl; steps = λ k m q. (promised k (go m q)).0; runs = λ k m q. (promised k (go m q)).1 }

@@ -1,46 +1,56 @@
-use Rattle.std.proofs.Common.{◌≡◌, ◌<◌, length, sym, refl, ap, ◌∙◌, subst, arith, rules}
+use Rattle.std.proofs.Common.{◌≡◌, ◌<◌, length, sym, refl, ap, ◌∙◌, arith}
 use Rattle.std.proofs.lemmas.List.{length-map}
 use Rattle.sources.specs.Supplies.{after}
 use Rattle.sources.proofs.Draws.{after_none}
 use Rattle.cloud.specs.Links.{links, states}
-use Rattle.cloud.specs.Forests.{Births}
 use Rattle.cloud.proofs.Drawing.{can_now, number_now, rest_now}
 use Rattle.cloud.proofs.Births.{born_none, born_step, born_some_tree}
 use Rattle.cloud.proofs.forest.Forest.issue_births.Goals as goal
 
-pub loop-i-init : goal.loop-i-init
-loop-i-init g c = (sym (after_none _), refl, omega arith, born_none (links c.args.self.now.nodes.now) (states c.args.self.now.nodes.now) c.args.self.now.head c.args.self.now.free c.args.row.now _)
-
-pub next_birth-state-requires : goal.next_birth-state-requires
-next_birth-state-requires g c = can_now (g.R.Source.supply c.args.source.now) _ (g.met.R.Source.lawful c.args.source.now) c.loop-i.i c.args.n (omega arith) c.requires.supplied c.loop-i.invariant.0
-
-pub issue-node-requires : goal.issue-node-requires
-issue-node-requires g c = record {
-  room = omega (arith, c.loop-i.invariant.2, c.requires.room);
-  tree = born_some_tree (links c.args.self.now.nodes.now) (links c.loop-i.self.nodes.now) (states c.args.self.now.nodes.now) (states c.loop-i.self.nodes.now) c.args.self.now.head c.loop-i.self.head c.args.self.now.free c.loop-i.self.free c.loop-i.row _ c.loop-i.i c.loop-i.invariant.3 c.requires.map;
+pub loop-init : goal.loop-init
+loop-init g c = record {
+  number = ap length c.new-tips.ensures;
+  rest = sym (after_none _);
+  same = refl;
+  free = omega arith;
+  born = λ w serial node issued t inv. born_none (links c.args.self.now.nodes.now) (states c.args.self.now.nodes.now) c.args.self.now.head c.args.self.now.free c.new-tips.result.items _ w serial node issued c.new-tips.ensures t inv;
 }
 
-pub loop-i-preserved : goal.loop-i-preserved
-loop-i-preserved g c =
+pub next_number-requires : goal.next_number-requires
+next_number-requires g c = can_now (g.R.Source.supply c.args.source.now) _ (g.met.R.Source.lawful c.args.source.now) c.loop.counter c.args.n (omega arith) c.requires.supplied c.loop.invariant.rest
+
+pub issue-requires : goal.issue-requires
+issue-requires g c = record {
+  room = omega (arith, c.loop.invariant.free, c.requires.room);
+  tree = born_some_tree (links c.args.self.now.nodes.now) (links c.loop.self.nodes.now) (states c.args.self.now.nodes.now) (states c.loop.self.nodes.now) c.args.self.now.head c.loop.self.head c.args.self.now.free c.loop.self.free c.loop.tips.items _ c.loop.invariant.born c.requires.map;
+}
+
+pub push-requires : goal.push-requires
+push-requires g c = (omega arith, omega (arith, c.loop.invariant.number, c.requires.few))
+
+pub loop-preserved : goal.loop-preserved
+loop-preserved g c =
     let s = g.R.Source.supply c.args.source.now in
-    let len : length c.loop-i.row ≡ 256 = search rules in (
-      rest_now s _ _ c.loop-i.i c.loop-i.invariant.0 c.next_birth-state.ensures.rest,
-      c.next_birth-state.ensures.same ∙ c.loop-i.invariant.1,
-      omega (arith, c.loop-i.invariant.2, c.issue-node.ensures.free),
-      λ w serial node issued t inv.
-          let li : c.loop-i.i < length c.loop-i.row = omega (arith, c.requires.few) in
-          let lt : length (states c.loop-i.self.nodes.now) ≡ length (links c.loop-i.self.nodes.now) = length-map c.loop-i.self.nodes.now _ ∙ sym (length-map c.loop-i.self.nodes.now _) in
-          born_step (links c.args.self.now.nodes.now) (links c.loop-i.self.nodes.now) (links c.issue-node.new.self.nodes.now) (states c.args.self.now.nodes.now) (states c.loop-i.self.nodes.now) (states c.issue-node.new.self.nodes.now) c.loop-i.self.head c.issue-node.new.self.head c.loop-i.self.free c.issue-node.new.self.free c.loop-i.row _ c.loop-i.i c.issue-node.result c.next_birth-state.result w serial node issued li lt
-          (c.next_birth-state.ensures.value ∙ ap (g.M.Model.meaning c.args.model.now).birth (number_now s _ c.loop-i.i c.loop-i.invariant.0))
-          c.issue-node.ensures.first c.issue-node.ensures.next c.issue-node.ensures.links c.issue-node.ensures.states c.issue-node.ensures.free (c.loop-i.invariant.3 w serial node issued t inv),
-    )
+    record {
+      number = omega (arith, c.push.ensures.len, c.loop.invariant.number);
+      rest = rest_now s _ _ c.loop.counter c.loop.invariant.rest c.next_number.ensures.rest;
+      same = c.next_number.ensures.same ∙ c.loop.invariant.same;
+      free = omega (arith, c.loop.invariant.free, c.issue.ensures.free);
+      born = λ w serial node issued t inv.
+          let lt : length (states c.loop.self.nodes.now) ≡ length (links c.loop.self.nodes.now) = length-map c.loop.self.nodes.now _ ∙ sym (length-map c.loop.self.nodes.now _) in
+          let count : c.loop.counter ≡ length c.loop.tips.items = sym c.loop.invariant.number in
+          born_step (links c.args.self.now.nodes.now) (links c.loop.self.nodes.now) (links c.issue.new.self.nodes.now) (states c.args.self.now.nodes.now) (states c.loop.self.nodes.now) (states c.issue.new.self.nodes.now) c.loop.self.head c.issue.new.self.head c.loop.self.free c.issue.new.self.free c.loop.tips.items c.push.new.self.items _ c.issue.result c.birth-state.result w serial node issued c.push.ensures.items lt
+          (c.birth-state.ensures ∙ ap (g.M.Model.meaning c.args.model.now).birth (c.next_number.ensures.value ∙ number_now s _ c.loop.counter c.loop.invariant.rest ∙ ap s.to_come count))
+          c.issue.ensures.first c.issue.ensures.next c.issue.ensures.links c.issue.ensures.states c.issue.ensures.free (c.loop.invariant.born w serial node issued t inv);
+    }
 
 pub returns : goal.returns
 returns g c =
-    let e : c.loop-i.i ≡ c.args.n = omega arith in
+    let e : c.loop.counter ≡ c.args.n = omega arith in
     record {
-      rest = c.loop-i.invariant.0 ∙ ap (λ k. after k (g.R.Source.supply c.args.source.now)) e;
-      same = c.loop-i.invariant.1;
-      free = omega (arith, c.loop-i.invariant.2);
-      born = subst (Births c.args.self.now c.loop-i.self c.loop-i.row (λ k. (g.M.Model.meaning c.args.model.now).birth ((g.R.Source.supply c.args.source.now).to_come k))) e c.loop-i.invariant.3;
+      number = c.loop.invariant.number ∙ e;
+      rest = c.loop.invariant.rest ∙ ap (λ k. after k (g.R.Source.supply c.args.source.now)) e;
+      same = c.loop.invariant.same;
+      free = omega (arith, c.loop.invariant.free);
+      born = c.loop.invariant.born;
     }

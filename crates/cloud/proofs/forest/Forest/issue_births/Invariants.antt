@@ -1,11 +1,13 @@
-use Rattle.std.proofs.Common.{◌≡◌, ◌+◌}
+use Rattle.std.proofs.Common.{◌≡◌, ◌+◌, length}
 use Rattle.sources.specs.Supplies.{after}
 use Rattle.cloud.specs.Forests.{Births}
 use Rattle.cloud.proofs.forest.Forest.issue_births.Given as goal
 
-abbrev pub invariant-loop-i : goal.invariant-loop-i
-invariant-loop-i g l =
-    (g.R.Source.supply l.source ≡ after l.i (g.R.Source.supply l.initial.source))
-    × (g.R.Source.recorded l.source ≡ g.R.Source.recorded l.initial.source)
-    × (l.self.free + l.i ≡ l.initial.self.free)
-    × Births l.initial.self l.self l.row (λ k. (g.M.Model.meaning l.model).birth ((g.R.Source.supply l.initial.source).to_come k)) l.i
+abbrev pub invariant-loop : goal.invariant-loop
+invariant-loop g l = record {
+  number : length l.tips.items ≡ l.counter;
+  rest : g.R.Source.supply l.source ≡ after l.counter (g.R.Source.supply l.initial.source);
+  same : g.R.Source.recorded l.source ≡ g.R.Source.recorded l.initial.source;
+  free : l.self.free + l.counter ≡ l.initial.self.free;
+  born : Births l.initial.self l.self l.tips.items (λ k. (g.M.Model.meaning l.model).birth ((g.R.Source.supply l.initial.source).to_come k));
+}

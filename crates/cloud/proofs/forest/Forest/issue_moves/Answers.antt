@@ -1,5 +1,5 @@
 use Rattle.std.proofs.Common.{◌≡◌, length, get_or, set, Some, sym, refl, ap, ◌∙◌, subst, arith, rules}
-use Rattle.std.proofs.lemmas.List.{length-map, length-set}
+use Rattle.std.proofs.lemmas.List.{length-map}
 use Rattle.sources.specs.Supplies.{after}
 use Rattle.sources.proofs.Draws.{after_none}
 use Rattle.cloud.specs.Links.{links, states, linked, link_at}
@@ -11,47 +11,53 @@ use Rattle.cloud.proofs.Links.{length-links}
 use Rattle.cloud.proofs.Moves.{moved_none, moved_step, moved_some_tree, moved_inside}
 use Rattle.cloud.proofs.forest.Forest.issue_moves.Goals as goal
 
-pub loop-i-init : goal.loop-i-init
-loop-i-init g c = (search rules, sym (after_none _), refl, omega arith, moved_none (links c.args.self.now.nodes.now) (states c.args.self.now.nodes.now) c.args.self.now.head c.args.self.now.free c.args.row.now _ c.args.n)
+pub loop-tip-init : goal.loop-tip-init
+loop-tip-init g c = record {
+  rest = sym (after_none _);
+  same = refl;
+  free = omega arith;
+  moved = moved_none (links c.args.self.now.nodes.now) (states c.args.self.now.nodes.now) c.args.self.now.head c.args.self.now.free c.args.tips.now _;
+}
 
 pub state_of-old-requires : goal.state_of-old-requires
 state_of-old-requires g c =
-    let x = moved_inside (links c.args.self.now.nodes.now) (links c.loop-i.self.nodes.now) (states c.args.self.now.nodes.now) (states c.loop-i.self.nodes.now) c.args.self.now.head c.loop-i.self.head c.args.self.now.free c.loop-i.self.free c.args.row.now c.loop-i.row _ c.args.n c.loop-i.i c.loop-i.invariant.4 c.requires.map (omega (arith, c.loop-i.invariant.0, c.requires.few)) (omega arith) in
-    omega (arith, x, length-links c.loop-i.self.nodes.now)
+    let x = moved_inside (links c.args.self.now.nodes.now) (links c.loop-tip.self.nodes.now) (states c.args.self.now.nodes.now) (states c.loop-tip.self.nodes.now) c.args.self.now.head c.loop-tip.self.head c.args.self.now.free c.loop-tip.self.free c.args.tips.now c.loop-tip.tips _ c.loop-tip.tip-index c.loop-tip.invariant.moved c.requires.map (omega arith) in
+    omega (arith, x, length-links c.loop-tip.self.nodes.now)
 
-pub next_move-state-requires : goal.next_move-state-requires
-next_move-state-requires g c = can_now (g.R.Source.supply c.args.source.now) _ (g.met.R.Source.lawful c.args.source.now) c.loop-i.i c.args.n (omega arith) c.requires.supplied c.loop-i.invariant.1
+pub next_number-requires : goal.next_number-requires
+next_number-requires g c = can_now (g.R.Source.supply c.args.source.now) _ (g.met.R.Source.lawful c.args.source.now) c.loop-tip.tip-index (length c.args.tips.now) (omega arith) c.requires.supplied c.loop-tip.invariant.rest
 
-pub issue-node-requires : goal.issue-node-requires
-issue-node-requires g c = record {
-  room = omega (arith, c.loop-i.invariant.3, c.requires.room);
-  tree = subst (λ xs. SomeTree (links xs) c.loop-i.self.head c.loop-i.self.free) (sym c.state_of-old.ensures.kept) (moved_some_tree (links c.args.self.now.nodes.now) (links c.loop-i.self.nodes.now) (states c.args.self.now.nodes.now) (states c.loop-i.self.nodes.now) c.args.self.now.head c.loop-i.self.head c.args.self.now.free c.loop-i.self.free c.args.row.now c.loop-i.row _ c.args.n c.loop-i.i c.loop-i.invariant.4 c.requires.map);
+pub issue-requires : goal.issue-requires
+issue-requires g c = record {
+  room = omega (arith, c.loop-tip.invariant.free, c.requires.room);
+  tree = subst (λ xs. SomeTree (links xs) c.loop-tip.self.head c.loop-tip.self.free) (sym c.state_of-old.ensures.kept) (moved_some_tree (links c.args.self.now.nodes.now) (links c.loop-tip.self.nodes.now) (states c.args.self.now.nodes.now) (states c.loop-tip.self.nodes.now) c.args.self.now.head c.loop-tip.self.head c.args.self.now.free c.loop-tip.self.free c.args.tips.now c.loop-tip.tips _ c.loop-tip.tip-index c.loop-tip.invariant.moved c.requires.map);
 }
 
-pub loop-i-preserved : goal.loop-i-preserved
-loop-i-preserved g c =
-    let s = g.R.Source.supply c.args.source.now in (
-      length-set c.loop-i.row c.loop-i.i c.issue-node.result ∙ c.loop-i.invariant.0,
-      rest_now s _ _ c.loop-i.i c.loop-i.invariant.1 c.next_move-state.ensures.rest,
-      c.next_move-state.ensures.same ∙ c.loop-i.invariant.2,
-      omega (arith, c.loop-i.invariant.3, c.issue-node.ensures.free),
-      λ w serial node issued t inv.
-          let lt : length (states c.loop-i.self.nodes.now) ≡ length (links c.loop-i.self.nodes.now) = length-map c.loop-i.self.nodes.now _ ∙ sym (length-map c.loop-i.self.nodes.now _) in
-          moved_step (links c.args.self.now.nodes.now) (links c.loop-i.self.nodes.now) (links c.issue-node.new.self.nodes.now) (states c.args.self.now.nodes.now) (states c.loop-i.self.nodes.now) (states c.issue-node.new.self.nodes.now) c.loop-i.self.head c.issue-node.new.self.head c.loop-i.self.free c.issue-node.new.self.free c.args.row.now c.loop-i.row _ c.args.n c.loop-i.i c.issue-node.result c.state_of-old.result c.next_move-state.result w serial node issued (omega (arith, c.loop-i.invariant.0, c.requires.few)) (omega arith) lt c.state_of-old.ensures.value
-          (◌∙◌ {b = guarded_move g.S.State.kind (g.M.Model.meaning c.args.model.now) c.state_of-old.result c.args.command ((g.R.Source.supply c.loop-i.source).to_come 0)} c.next_move-state.ensures.value (ap (guarded_move g.S.State.kind (g.M.Model.meaning c.args.model.now) c.state_of-old.result c.args.command) (number_now s _ c.loop-i.i c.loop-i.invariant.1)))
-          c.issue-node.ensures.first
-          (◌∙◌ {b = (link_at (links c.state_of-old.new.nodes) c.issue-node.result).parent} c.issue-node.ensures.next (ap (λ xs. (link_at (links xs) c.issue-node.result).parent) c.state_of-old.ensures.kept))
-          (◌∙◌ {b = set (links c.state_of-old.new.nodes) c.issue-node.result (linked 1 (Some (get_or c.loop-i.row c.loop-i.i 0)))} c.issue-node.ensures.links (ap (λ xs. set (links xs) c.issue-node.result (linked 1 (Some (get_or c.loop-i.row c.loop-i.i 0)))) c.state_of-old.ensures.kept))
-          (◌∙◌ {b = set (states c.state_of-old.new.nodes) c.issue-node.result c.next_move-state.result} c.issue-node.ensures.states (ap (λ xs. set (states xs) c.issue-node.result c.next_move-state.result) c.state_of-old.ensures.kept))
-          c.issue-node.ensures.free (c.loop-i.invariant.4 w serial node issued t inv),
-    )
+pub loop-tip-preserved : goal.loop-tip-preserved
+loop-tip-preserved g c =
+    let s = g.R.Source.supply c.args.source.now in
+    let parent = Some (get_or c.loop-tip.tips c.loop-tip.tip-index 0) in
+    record {
+      rest = rest_now s _ _ c.loop-tip.tip-index c.loop-tip.invariant.rest c.next_number.ensures.rest;
+      same = c.next_number.ensures.same ∙ c.loop-tip.invariant.same;
+      free = omega (arith, c.loop-tip.invariant.free, c.issue.ensures.free);
+      moved = λ w serial node issued t inv.
+          let lt : length (states c.loop-tip.self.nodes.now) ≡ length (links c.loop-tip.self.nodes.now) = length-map c.loop-tip.self.nodes.now _ ∙ sym (length-map c.loop-tip.self.nodes.now _) in
+          moved_step (links c.args.self.now.nodes.now) (links c.loop-tip.self.nodes.now) (links c.issue.new.self.nodes.now) (states c.args.self.now.nodes.now) (states c.loop-tip.self.nodes.now) (states c.issue.new.self.nodes.now) c.loop-tip.self.head c.issue.new.self.head c.loop-tip.self.free c.issue.new.self.free c.args.tips.now c.loop-tip.tips _ c.loop-tip.tip-index c.issue.result c.state_of-old.result c.move_of-state.result w serial node issued (omega arith) lt c.state_of-old.ensures.value
+          (c.move_of-state.ensures ∙ ap (guarded_move g.S.State.kind (g.M.Model.meaning c.args.model.now) c.state_of-old.result c.args.command) (c.next_number.ensures.value ∙ number_now s _ c.loop-tip.tip-index c.loop-tip.invariant.rest))
+          c.issue.ensures.first
+          (◌∙◌ {b = (link_at (links c.state_of-old.new.nodes) c.issue.result).parent} c.issue.ensures.next (ap (λ xs. (link_at (links xs) c.issue.result).parent) c.state_of-old.ensures.kept))
+          (◌∙◌ {b = set (links c.state_of-old.new.nodes) c.issue.result (linked 1 parent)} c.issue.ensures.links (ap (λ xs. set (links xs) c.issue.result (linked 1 parent)) c.state_of-old.ensures.kept))
+          (◌∙◌ {b = set (states c.state_of-old.new.nodes) c.issue.result c.move_of-state.result} c.issue.ensures.states (ap (λ xs. set (states xs) c.issue.result c.move_of-state.result) c.state_of-old.ensures.kept))
+          c.issue.ensures.free (c.loop-tip.invariant.moved w serial node issued t inv);
+    }
 
 pub returns : goal.returns
 returns g c =
-    let e : c.loop-i.i ≡ c.args.n = omega arith in
+    let e : c.loop-tip.tip-index ≡ length c.args.tips.now = omega arith in
     record {
-      rest = c.loop-i.invariant.1 ∙ ap (λ k. after k (g.R.Source.supply c.args.source.now)) e;
-      same = c.loop-i.invariant.2;
-      free = omega (arith, c.loop-i.invariant.3);
-      moved = subst (Longer c.args.self.now c.loop-i.self c.args.row.now c.loop-i.row (λ k s. guarded_move g.S.State.kind (g.M.Model.meaning c.args.model.now) s c.args.command ((g.R.Source.supply c.args.source.now).to_come k)) c.args.n) e c.loop-i.invariant.4;
+      rest = c.loop-tip.invariant.rest ∙ ap (λ k. after k (g.R.Source.supply c.args.source.now)) e;
+      same = c.loop-tip.invariant.same;
+      free = omega (arith, c.loop-tip.invariant.free);
+      moved = subst (Longer c.args.self.now c.loop-tip.self c.args.tips.now c.loop-tip.tips (λ k s. guarded_move g.S.State.kind (g.M.Model.meaning c.args.model.now) s c.args.command ((g.R.Source.supply c.args.source.now).to_come k))) e c.loop-tip.invariant.moved;
     }
