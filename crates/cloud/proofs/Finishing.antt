@@ -13,7 +13,7 @@ use Rattle.filter.specs.Replies.{done, refused, nothing}
 use Rattle.filter.proofs.Grants.{empty_not_weighed}
 use Rattle.filter.proofs.Sounds.{sound_granted}
 use Rattle.cloud.specs.declared.node.Node.{Node}
-use Rattle.cloud.specs.Links.{links, states, Kept}
+use Rattle.cloud.specs.Links.{links, states, Keeps}
 use Rattle.cloud.specs.Trees.{is_node, is_named, Tree, SomeTreeAll}
 use Rattle.cloud.specs.Tracks.{named}
 use Rattle.cloud.specs.Representations.{View, Represents, Alike, SomeFilter}
@@ -41,7 +41,7 @@ module _ {S : Type 0} (m : Meaning S) (q : Supply) (v : View S) where
   finish_wrong_phase e node f h src = taken_refused m finish v q node f WrongPhase h src (ap (λ p. unless (is_living p) WrongPhase None) (h.phase ∙ e))
 
   -- a finish that is granted: the nodes, their first free one, how many are free, and the tips
-  module _ (nodes : List (Node S)) (head : Option ℕ) (left : ℕ) (tips : List ℕ) (freed : ℕ) (et : tips ≡ []) (ef : left ≡ v.free + freed) (kept : states nodes ≡ states v.nodes) (frame : Kept (links v.nodes) (links nodes))
+  module _ (nodes : List (Node S)) (head : Option ℕ) (left : ℕ) (tips : List ℕ) (freed : ℕ) (et : tips ≡ []) (ef : left ≡ v.free + freed) (kept : Keeps v.nodes nodes)
       (law : (w serial : ℕ → ℕ) (issued : ℕ) → Tree (links v.nodes) v.head v.free (λ k. w k + sum_by (is_node k) v.tips) serial issued → Tree (links nodes) head left w serial issued)
       (some_way : v.phase ≡ Empty → ⊥) where
     abbrev v' : View S
@@ -62,24 +62,24 @@ module _ {S : Type 0} (m : Meaning S) (q : Supply) (v : View S) where
         sound = sound_granted m f h.sound finish 0 open_call;
         serial = h.serial;
         tree = new_tree;
-        inverse = λ k l c. h.inverse k (omega (arith, same_links v v' kept frame)) (frame k c).0;
+        inverse = λ k l c. h.inverse k (omega (arith, same_links v v' kept)) (kept.same_parents k c).0;
         number = sym (ap length et);
         paths_are = λ i l. absurd (omega (arith, ap length et));
         sixteen = h.sixteen;
         places_are = λ i l.
             let l2 : i < length v.holds = omega (arith, h.sixteen) in
             alike_stays (links v.nodes) (links v'.nodes) (states v.nodes) (states v'.nodes) h.serial h.serial (get_or v.holds i None) (get_or f.places i None)
-            (λ k p e r. track_on v v' kept frame h.serial f.issued k p h.tree new_tree (place_named v.tips v.holds i k l2 e) (place_named tips v.holds i k l2 e) r)
+            (λ k p e r. track_on v v' kept h.serial f.issued k p h.tree new_tree (place_named v.tips v.holds i k l2 e) (place_named tips v.holds i k l2 e) r)
             (h.places_are i l);
         phase = refl;
         round = h.round;
         stamp = h.stamp;
-        room = h.room ∙ sym (same_nodes v v' kept frame);
+        room = h.room ∙ sym (same_nodes v v' kept);
         weights = λ e. absurd (empty_not_weighed e);
       }
 
     pub finish_granted : Follows m finish (done 0 freed nothing) v q v' q
     finish_granted node f h src =
         taken_granted m finish v q node f 0 freed nothing v' q node (open_call node f h) tt (finished node f h) src refl
-        (freed_by node node v v' f (granted m f finish 0) freed h (finished node f h) (same_nodes v v' kept frame) ef)
+        (freed_by node node v v' f (granted m f finish 0) freed h (finished node f h) (same_nodes v v' kept) ef)
         refl (stay_all v node f.issued)

@@ -8,7 +8,7 @@ use Rattle.filter.specs.Uses.{free}
 use Rattle.filter.specs.Refusals.{is_living}
 use Rattle.filter.specs.Replies.{freed}
 use Rattle.cloud.specs.declared.node.Node.{Node}
-use Rattle.cloud.specs.Links.{links, states, Kept}
+use Rattle.cloud.specs.Links.{links, states, Keeps}
 use Rattle.cloud.specs.Trees.{Tree}
 use Rattle.cloud.specs.Tracks.{Track, named}
 use Rattle.cloud.specs.Representations.{View, Represents}
@@ -29,16 +29,16 @@ freed_by node node' v v' f f' d h h' size e =
     omega arith
 
 -- nothing new is in use, and the states stay
-module _ {S : Type 0} (v v' : View S) (kept : states v'.nodes ≡ states v.nodes) (frame : Kept (links v.nodes) (links v'.nodes)) where
+module _ {S : Type 0} (v v' : View S) (kept : Keeps v.nodes v'.nodes) where
   pub same_nodes : length v'.nodes ≡ length v.nodes
-  same_nodes = sym (length-map v'.nodes (λ (x : Node S). x.state)) ∙ ap length kept ∙ length-map v.nodes (λ (x : Node S). x.state)
+  same_nodes = sym (length-map v'.nodes (λ (x : Node S). x.state)) ∙ ap length kept.same_states ∙ length-map v.nodes (λ (x : Node S). x.state)
 
   pub same_links : length (links v'.nodes) ≡ length (links v.nodes)
   same_links = length-links v'.nodes ∙ same_nodes ∙ sym (length-links v.nodes)
 
   pub track_on : (serial : ℕ → ℕ) (issued k : ℕ) (p : PathOf S) → Tree (links v.nodes) v.head v.free (named v.tips v.holds) serial issued → Tree (links v'.nodes) v'.head v'.free (named v'.tips v'.holds) serial issued → 0 < named v.tips v.holds k → 0 < named v'.tips v'.holds k → Track (links v.nodes) (states v.nodes) serial (Some k) p → Track (links v'.nodes) (states v'.nodes) serial (Some k) p
-  track_on serial issued k p t t' a b r = subst (λ us. Track (links v'.nodes) us serial (Some k) p) (sym kept)
-      (kept_stays (links v.nodes) (links v'.nodes) (states v.nodes) v.head v'.head v.free v'.free (named v.tips v.holds) (named v'.tips v'.holds) serial issued t t' same_links frame (Some k) p
+  track_on serial issued k p t t' a b r = subst (λ us. Track (links v'.nodes) us serial (Some k) p) (sym kept.same_states)
+      (kept_stays (links v.nodes) (links v'.nodes) (states v.nodes) v.head v'.head v.free v'.free (named v.tips v.holds) (named v'.tips v'.holds) serial issued t t' same_links kept.same_parents (Some k) p
       (λ x e. let z : k ≡ x = cc in subst (λ y. 0 < named v.tips v.holds y) z a) (λ x e. let z : k ≡ x = cc in subst (λ y. 0 < named v'.tips v'.holds y) z b) r)
 
 -- the free nodes are as many as the filter has

@@ -3,7 +3,7 @@ use Rattle.std.proofs.Common.{◌≡◌, ℕ, ◌<◌, ◌≢◌, List, length, 
 use Rattle.std.proofs.lemmas.List.{length-map, map-set, get_or-map, set-get_or, set-set, get_or-set_same, get_or-set_other}
 use Rattle.std.proofs.lemmas.Bool.{cases_eq}
 use Rattle.cloud.specs.declared.node.Node.{Node}
-use Rattle.cloud.specs.Links.{links, link, linked, states, Link, no_link, link_at, Kept}
+use Rattle.cloud.specs.Links.{links, link, linked, states, Link, no_link, link_at, Kept, Keeps}
 
 pub link_at_same : (ls : List Link) (i : ℕ) (y : Link) → i < length ls → link_at (set ls i y) i ≡ y
 link_at_same ls i y h = get_or-set_same ls i y no_link h
@@ -38,25 +38,6 @@ links_kept xs i d y e h = links_set xs i y ∙ ap (set (links xs) i) (e ∙ sym 
 pub same_link : {a b : ℕ} {o p : Option ℕ} → a ≡ b → o ≡ p → ◌≡◌ {A = Link} (record { count = a; parent = o }) (record { count = b; parent = p })
 same_link e f = λ j. record { count = e j; parent = f j }
 
--- two fields of a node written, one after the other
-module _ {S : Type 0} (xs : List (Node S)) (i : ℕ) (d d2 : Node S) (c : ℕ) (b : Option ℕ) (h : i < length xs) where
-  abbrev pub first_write : Node S
-  first_write = record { state = (get_or xs i d).state; count = c; parent = (get_or xs i d).parent }
-
-  abbrev pub second_write : Node S
-  second_write = record { state = (get_or (set xs i first_write) i d2).state; count = (get_or (set xs i first_write) i d2).count; parent = b }
-
-  there : get_or (set xs i first_write) i d2 ≡ first_write
-  there = get_or-set_same xs i first_write d2 h
-
-  pub relinked : links (set (set xs i first_write) i second_write) ≡ set (links xs) i (linked c b)
-  unfolding there
-  relinked = ap links (set-set xs i first_write second_write) ∙ links_set xs i second_write ∙ ap (set (links xs) i) (same_link (ap (λ x. x.count) there) refl)
-
-  pub relinked_states : states (set (set xs i first_write) i second_write) ≡ states xs
-  unfolding there
-  relinked_states = ap states (set-set xs i first_write second_write) ∙ states_kept xs i d second_write (ap (λ x. x.state) there) h
-
 pub length-links : {S : Type 0} (xs : List (Node S)) → length (links xs) ≡ length xs
 length-links xs = length-map xs link
 
@@ -69,3 +50,9 @@ kept_trans ls ms ns a b n h = let r = b n h in let q = a n r.0 in (q.0, r.1 ∙ 
 pub kept_set : (ls ms : List Link) (i c : ℕ) (b : Option ℕ) → i < length ls → ms ≡ set ls i (linked c b) → 0 < (link_at ls i).count → (0 < c → b ≡ (link_at ls i).parent) → Kept ls ms
 kept_set ls ms i c b h e pos q =
     subst (Kept ls) (sym e) (λ n. link_at_cases ls i (linked c b) n h (λ x. 0 < x.count → (0 < (link_at ls n).count) × (x.parent ≡ (link_at ls n).parent)) (λ en l. subst (λ j. (0 < (link_at ls j).count) × (b ≡ (link_at ls j).parent)) (sym en) (pos, q l)) (λ _ l. (l, refl)))
+
+pub keeps_refl : {S : Type 0} (xs : List (Node S)) → Keeps xs xs
+keeps_refl xs = record { same_states = refl; same_parents = kept_refl (links xs) }
+
+pub keeps_trans : {S : Type 0} (xs ys zs : List (Node S)) → Keeps xs ys → Keeps ys zs → Keeps xs zs
+keeps_trans xs ys zs a b = record { same_states = b.same_states ∙ a.same_states; same_parents = kept_trans (links xs) (links ys) (links zs) a.same_parents b.same_parents }

@@ -23,7 +23,7 @@ use Rattle.filter.specs.Replies.{done, refused, nothing}
 use Rattle.filter.proofs.Grants.{level_not_weighed, weighed_not_empty}
 use Rattle.filter.proofs.Sounds.{sound_granted}
 use Rattle.cloud.specs.declared.node.Node.{Node}
-use Rattle.cloud.specs.Links.{links, states, Kept}
+use Rattle.cloud.specs.Links.{links, states, Keeps}
 use Rattle.cloud.specs.Trees.{is_node, is_named, Tree}
 use Rattle.cloud.specs.Tracks.{Track, named, SomeTreeFew}
 use Rattle.cloud.specs.Representations.{View, Represents, Alike, SomeFilter}
@@ -120,7 +120,7 @@ module _ {S : Type 0} (m : Meaning S) (v : View S) (q : Supply) where
 
       -- a resampling that is granted: the parents, the nodes, their first free one, how many are free, and the tips
       module _ (ps : List ℕ) (got : Written v.weights (q.to_come 0) ps) (nodes : List (Node S)) (head : Option ℕ) (left : ℕ) (tips : List ℕ) (q' : Supply) (freed : ℕ) (ef : left ≡ v.free + freed) (eq : q' ≡ after 1 q)
-          (kept : states nodes ≡ states v.nodes) (frame : Kept (links v.nodes) (links nodes)) (children : tips ≡ map (λ k. get_or v.tips k 0) ps)
+          (kept : Keeps v.nodes nodes) (children : tips ≡ map (λ k. get_or v.tips k 0) ps)
           (law : (w serial : ℕ → ℕ) (issued : ℕ) → Tree (links v.nodes) v.head v.free (λ k. w k + sum_by (is_node k) v.tips) serial issued → Tree (links nodes) head left (λ k. w k + sum_by (is_node k) tips) serial issued) where
         abbrev v' : View S
         v' = resampled_view v nodes head left tips
@@ -148,7 +148,7 @@ module _ {S : Type 0} (m : Meaning S) (v : View S) (q : Supply) where
               (tree_same (links v.nodes) v.head v.free (named v.tips v.holds) (λ k. sum_by (λ o. is_named o k) v.holds + sum_by (is_node k) v.tips) h.serial f.issued (λ k. omega arith) h.tree))
 
           on : (k : ℕ) (p : PathOf S) → 0 < named v.tips v.holds k → 0 < named v'.tips v'.holds k → Track (links v.nodes) (states v.nodes) h.serial (Some k) p → Track (links v'.nodes) (states v'.nodes) h.serial (Some k) p
-          on k p a b r = track_on v v' kept frame h.serial f.issued k p h.tree new_tree a b r
+          on k p a b r = track_on v v' kept h.serial f.issued k p h.tree new_tree a b r
 
           path_at : (i : ℕ) → i < length ps → get_or (map (path f) (parents_now f)) i [] ≡ get_or f.paths (get_or ps i 0) []
           path_at i l = ap (λ us. get_or (map (path f) us) i []) ps_are ∙ get_or-map (path f) ps i 0 [] l
@@ -158,7 +158,7 @@ module _ {S : Type 0} (m : Meaning S) (v : View S) (q : Supply) where
             sound = sound_granted m f h.sound resample 0 open_call;
             serial = h.serial;
             tree = new_tree;
-            inverse = λ k l c. h.inverse k (omega (arith, same_links v v' kept frame)) (frame k c).0;
+            inverse = λ k l c. h.inverse k (omega (arith, same_links v v' kept)) (kept.same_parents k c).0;
             number = length-map (parents_now f) (path f) ∙ ap length ps_are ∙ sym tips_len;
             paths_are = λ i l.
                 let l2 : i < length ps = omega (arith, tips_len) in
@@ -177,12 +177,12 @@ module _ {S : Type 0} (m : Meaning S) (v : View S) (q : Supply) where
             phase = refl;
             round = h.round;
             stamp = h.stamp;
-            room = h.room ∙ sym (same_nodes v v' kept frame);
+            room = h.room ∙ sym (same_nodes v v' kept);
             weights = λ e. absurd (level_not_weighed e);
           }
 
         pub resample_granted : Follows m resample (done 0 freed nothing) v q v' q'
         resample_granted node f h src =
             taken_granted m resample v q node f 0 freed nothing v' q' node (open_call node f h src) tt (resampled node f h src) (ap (after 1) src ∙ sym eq) refl
-            (freed_by node node v v' f (granted m f resample 0) freed h (resampled node f h src) (same_nodes v v' kept frame) ef)
+            (freed_by node node v v' f (granted m f resample 0) freed h (resampled node f h src) (same_nodes v v' kept) ef)
             refl (stay_all v node f.issued)

@@ -15,7 +15,7 @@ use Rattle.filter.specs.Steps.{granted, path}
 use Rattle.filter.specs.Replies.{done, refused, held}
 use Rattle.filter.proofs.Sounds.{sound_granted}
 use Rattle.cloud.specs.declared.node.Node.{Node}
-use Rattle.cloud.specs.Links.{Link, links, states, link_at, no_link, Kept}
+use Rattle.cloud.specs.Links.{Link, links, states, link_at, no_link, Keeps}
 use Rattle.cloud.specs.Trees.{is_node, is_named, is_child, Tree}
 use Rattle.cloud.specs.Tracks.{Track, named}
 use Rattle.cloud.specs.Representations.{View, Represents, Alike, SomeFilter}
@@ -101,7 +101,7 @@ module _ {S : Type 0} (m : Meaning S) (q : Supply) (v : View S) (i : ℕ) where
 
       -- a hold that is granted: the tip, the place, the nodes, their first free one, and how many are free
       module _ (tip : ℕ) (is : get_or v.tips i 0 ≡ tip) (p : ℕ) (lp : p < 16) (closed : get_or v.holds p None ≡ None) (nodes : List (Node S)) (head : Option ℕ) (left : ℕ) (ef : left ≡ v.free)
-          (kept : states nodes ≡ states v.nodes) (frame : Kept (links v.nodes) (links nodes))
+          (kept : Keeps v.nodes nodes)
           (law : (w serial : ℕ → ℕ) (issued : ℕ) → Tree (links v.nodes) v.head v.free w serial issued → Tree (links nodes) head left (λ k. w k + is_node k tip) serial issued) where
         abbrev v' : View S
         v' = held_view v tip p nodes head left
@@ -129,7 +129,7 @@ module _ {S : Type 0} (m : Meaning S) (q : Supply) (v : View S) (i : ℕ) where
           new_tree = tree_same (links v'.nodes) v'.head v'.free (λ k. named v.tips v.holds k + is_node k tip) (named v'.tips v'.holds) h.serial f.issued more (law (named v.tips v.holds) h.serial f.issued h.tree)
 
           on : (k : ℕ) (r : PathOf S) → 0 < named v.tips v.holds k → Track (links v.nodes) (states v.nodes) h.serial (Some k) r → Track (links v'.nodes) (states v'.nodes) h.serial (Some k) r
-          on k r a x = track_on v v' kept frame h.serial f.issued k r h.tree new_tree a (omega (arith, a, more k)) x
+          on k r a x = track_on v v' kept h.serial f.issued k r h.tree new_tree a (omega (arith, a, more k)) x
 
           particle_on : (j : ℕ) → j < length v.tips → Track (links v'.nodes) (states v'.nodes) h.serial (Some (get_or v.tips j 0)) (get_or f.paths j [])
           particle_on j l = on (get_or v.tips j 0) (get_or f.paths j []) (particle_named v.tips v.holds j l) (h.paths_are j l)
@@ -153,7 +153,7 @@ module _ {S : Type 0} (m : Meaning S) (q : Supply) (v : View S) (i : ℕ) where
             sound = sound_granted m f h.sound (hold i) p open_call;
             serial = h.serial;
             tree = new_tree;
-            inverse = λ k l c. h.inverse k (omega (arith, same_links v v' kept frame)) (frame k c).0;
+            inverse = λ k l c. h.inverse k (omega (arith, same_links v v' kept)) (kept.same_parents k c).0;
             number = h.number;
             paths_are = particle_on;
             sixteen = holds_len;
@@ -165,7 +165,7 @@ module _ {S : Type 0} (m : Meaning S) (q : Supply) (v : View S) (i : ℕ) where
             phase = h.phase;
             round = h.round;
             stamp = h.stamp;
-            room = h.room ∙ sym (same_nodes v v' kept frame);
+            room = h.room ∙ sym (same_nodes v v' kept);
             weights = h.weights;
           }
 
@@ -173,5 +173,5 @@ module _ {S : Type 0} (m : Meaning S) (q : Supply) (v : View S) (i : ℕ) where
         hold_granted stamp e node f h src =
             let z : v'.free ≡ v.free + 0 = omega arith in
             taken_granted m (hold i) v q node f 0 0 (held stamp p) v' q node (open_call node f h) (inside_places node f h, place_closed node f h) (held_path node f h) src refl
-            (freed_by node node v v' f (granted m f (hold i) p) 0 h (held_path node f h) (same_nodes v v' kept frame) z)
+            (freed_by node node v v' f (granted m f (hold i) p) 0 h (held_path node f h) (same_nodes v v' kept) z)
             (ap (λ x. held x p) (e ∙ sym h.stamp)) (stay_all v node f.issued)

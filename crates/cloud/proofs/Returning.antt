@@ -13,7 +13,7 @@ use Rattle.filter.specs.Steps.{granted}
 use Rattle.filter.specs.Replies.{done, refused, nothing}
 use Rattle.filter.proofs.Sounds.{sound_granted}
 use Rattle.cloud.specs.declared.node.Node.{Node}
-use Rattle.cloud.specs.Links.{Link, links, states, Kept}
+use Rattle.cloud.specs.Links.{Link, links, states, Keeps}
 use Rattle.cloud.specs.Trees.{is_node, is_named, Tree, SomeTreeAt}
 use Rattle.cloud.specs.Tracks.{Track, named}
 use Rattle.cloud.specs.Representations.{View, Represents, Alike, SomeFilter}
@@ -69,7 +69,7 @@ module _ {S : Type 0} (v : View S) (p : ℕ) (lp : p < 16) (nd : ℕ) (at_p : ge
   return_named s = ∥∥₁_map s (λ (node, f, h). (named v.tips (set v.holds p None), h.serial, f.issued, less_one node f h))
 
   -- a give back that is granted: the nodes, their first free one, and how many are free
-  module _ (nodes : List (Node S)) (head : Option ℕ) (left freed : ℕ) (ef : left ≡ v.free + freed) (kept : states nodes ≡ states v.nodes) (frame : Kept (links v.nodes) (links nodes))
+  module _ (nodes : List (Node S)) (head : Option ℕ) (left freed : ℕ) (ef : left ≡ v.free + freed) (kept : Keeps v.nodes nodes)
       (law : (w serial : ℕ → ℕ) (issued : ℕ) → Tree (links v.nodes) v.head v.free (λ k. w k + is_node k nd) serial issued → Tree (links nodes) head left w serial issued)
       (m : Meaning S) (q : Supply) (stamp : ℕ) (e-stamp : stamp ≡ v.stamp) where
     abbrev v' : View S
@@ -91,7 +91,7 @@ module _ {S : Type 0} (v : View S) (p : ℕ) (lp : p < 16) (nd : ℕ) (at_p : ge
       new_tree = (law (named v.tips (set v.holds p None)) h.serial f.issued (less_one node f h))
 
       on : (k : ℕ) (r : PathOf S) → 0 < named v.tips v.holds k → 0 < named v.tips (set v.holds p None) k → Track (links v.nodes) (states v.nodes) h.serial (Some k) r → Track (links v'.nodes) (states v'.nodes) h.serial (Some k) r
-      on k r a b x = track_on v v' kept frame h.serial f.issued k r h.tree new_tree a b x
+      on k r a b x = track_on v v' kept h.serial f.issued k r h.tree new_tree a b x
 
       particle_on : (j : ℕ) → j < length v.tips → Track (links v'.nodes) (states v'.nodes) h.serial (Some (get_or v.tips j 0)) (get_or f.paths j [])
       particle_on j l = on (get_or v.tips j 0) (get_or f.paths j []) (particle_named v.tips v.holds j l) (particle_named v.tips (set v.holds p None) j l) (h.paths_are j l)
@@ -115,7 +115,7 @@ module _ {S : Type 0} (v : View S) (p : ℕ) (lp : p < 16) (nd : ℕ) (at_p : ge
         sound = sound_granted m f h.sound (give_back stamp p) 0 open_call;
         serial = h.serial;
         tree = new_tree;
-        inverse = λ k l c. h.inverse k (omega (arith, same_links v v' kept frame)) (frame k c).0;
+        inverse = λ k l c. h.inverse k (omega (arith, same_links v v' kept)) (kept.same_parents k c).0;
         number = h.number;
         paths_are = particle_on;
         sixteen = length-set v.holds p None ∙ h.sixteen;
@@ -127,12 +127,12 @@ module _ {S : Type 0} (v : View S) (p : ℕ) (lp : p < 16) (nd : ℕ) (at_p : ge
         phase = h.phase;
         round = h.round;
         stamp = h.stamp;
-        room = h.room ∙ sym (same_nodes v v' kept frame);
+        room = h.room ∙ sym (same_nodes v v' kept);
         weights = h.weights;
       }
 
     pub return_granted : Follows m (give_back stamp p) (done 0 freed nothing) v q v' q
     return_granted node f h src =
         taken_granted m (give_back stamp p) v q node f 0 freed nothing v' q node (open_call node f h) tt (returned node f h) src refl
-        (freed_by node node v v' f (granted m f (give_back stamp p) 0) freed h (returned node f h) (same_nodes v v' kept frame) ef)
+        (freed_by node node v v' f (granted m f (give_back stamp p) 0) freed h (returned node f h) (same_nodes v v' kept) ef)
         refl (stay_all v node f.issued)

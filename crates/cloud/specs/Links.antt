@@ -34,3 +34,8 @@ link_at ls n = slice_index_or ls n no_link
 -- what is in use after was in use before, with the same parent
 abbrev pub Kept : List Link → List Link → Type 0
 Kept ls ms = (n : ℕ) → 0 < (link_at ms n).count → (0 < (link_at ls n).count) × ((link_at ms n).parent ≡ (link_at ls n).parent)
+
+-- the nodes have their states as before, and what is in use was in use before, with the same parent
+pub record Keeps {S : Type 0} (xs ys : List (Node S)) : Type 0 where
+  pub same_states : states ys ≡ states xs
+  pub same_parents : Kept (links xs) (links ys)

@@ -1,6 +1,6 @@
 // The ancestry tree over lent memory.
 ghost use Rattle.std.specs.Prelude.{◌≡◌, ℕ, ◌+◌, ◌-◌, ◌^◌, ◌<◌, ◌≤◌, true, map, length, min, Some, None, sum_by, slice_index, slice_index_or, slice_set};
-ghost use Rattle.cloud.specs.Links.{link_at, linked, raised, Kept};
+ghost use Rattle.cloud.specs.Links.{link_at, linked, raised, Keeps};
 ghost use Rattle.cloud.specs.Trees.{Tree, is_node, is_named, with_serial};
 ghost use Rattle.sources.specs.Supplies.{after};
 ghost use Rattle.resampling.specs.Marks.{total};
@@ -45,10 +45,9 @@ impl<S: Copy> Forest<'_, S> {
         requires within { node < length self.old.nodes.now }
         requires used { 0 < (link_at (links_of self.old) node).count }
         requires room { (link_at (links_of self.old) node).count + 1 < 2 ^ 32 }
-        ensures kept { states_of self.new ≡ states_of self.old }
+        ensures kept { Keeps self.old.nodes.now self.new.nodes.now }
         ensures links { links_of self.new ≡ slice_set (links_of self.old) node (raised (link_at (links_of self.old) node)) }
         ensures head { self.new.head ≡ self.old.head }
-        ensures frame { Kept (links_of self.old) (links_of self.new) }
         ensures free { self.new.free ≡ self.old.free }
         ensures tree { (w serial : ℕ → ℕ) (issued : ℕ) → IsTree self.old w serial issued → IsTree self.new (λ n. w n + is_node n node) serial issued }
     {
@@ -58,8 +57,7 @@ impl<S: Copy> Forest<'_, S> {
     // One particle or hold less names the node, and what nothing hangs on any more is freed; how many nodes were.
     pub(crate) fn release(&mut self, node: u16) -> u32
         requires { HasTreeAt self.old node }
-        ensures kept { states_of self.new ≡ states_of self.old }
-        ensures frame { Kept (links_of self.old) (links_of self.new) }
+        ensures kept { Keeps self.old.nodes.now self.new.nodes.now }
         ensures freed { self.new.free ≡ self.old.free + result }
         ensures tree { (w serial : ℕ → ℕ) (issued : ℕ) → IsTree self.old (λ n. w n + is_node n node) serial issued → IsTree self.new w serial issued }
     {
@@ -73,8 +71,7 @@ impl<S: Copy> Forest<'_, S> {
     // Each node of a list is released; how many nodes were freed.
     pub(crate) fn release_all(&mut self, named: &[u16]) -> u32
         requires { HasTreeAll self.old named.now }
-        ensures kept { states_of self.new ≡ states_of self.old }
-        ensures frame { Kept (links_of self.old) (links_of self.new) }
+        ensures kept { Keeps self.old.nodes.now self.new.nodes.now }
         ensures freed { self.new.free ≡ self.old.free + result }
         ensures tree { (w serial : ℕ → ℕ) (issued : ℕ) → IsTree self.old (λ k. w k + sum_by (is_node k) named.now) serial issued → IsTree self.new w serial issued }
     {
@@ -185,8 +182,7 @@ impl<S: Copy> Forest<'_, S> {
         requires fits { length parents.now ≤ 256 }
         requires below { (k : ℕ) → k < length parents.now → slice_index parents.now k < length old.now }
         requires tree { HasTreeFew self.old old.now }
-        ensures kept { states_of self.new ≡ states_of self.old }
-        ensures frame { Kept (links_of self.old) (links_of self.new) }
+        ensures kept { Keeps self.old.nodes.now self.new.nodes.now }
         ensures free { self.new.free ≡ self.old.free }
         ensures children { result.items ≡ map (slice_index old.now) parents.now }
         ensures tree { (w serial : ℕ → ℕ) (issued : ℕ) → IsTree self.old w serial issued → IsTree self.new (λ k. w k + sum_by (is_node k) result.items) serial issued }
@@ -205,8 +201,7 @@ impl<S: Copy> Forest<'_, S> {
         requires fits { length parents.now ≤ 256 }
         requires below { (k : ℕ) → k < length parents.now → slice_index parents.now k < length tips.old.items }
         requires tree { HasTreeFew self.old tips.old.items }
-        ensures kept { states_of self.new ≡ states_of self.old }
-        ensures frame { Kept (links_of self.old) (links_of self.new) }
+        ensures kept { Keeps self.old.nodes.now self.new.nodes.now }
         ensures freed { self.new.free ≡ self.old.free + result }
         ensures children { tips.new.items ≡ map (slice_index tips.old.items) parents.now }
         ensures tree { (w serial : ℕ → ℕ) (issued : ℕ) → IsTree self.old (λ k. w k + sum_by (is_node k) tips.old.items) serial issued → IsTree self.new (λ k. w k + sum_by (is_node k) tips.new.items) serial issued }

@@ -23,6 +23,15 @@ impl<S> Node<S> {
             parent: None,
         }
     }
+
+    // The node has this count and this parent, and its state as before.
+    pub(crate) fn relink(&mut self, count: u32, parent: Option<u16>)
+        ensures state { self.new.state ≡ self.old.state }
+        ensures link { link self.new ≡ linked count parent }
+    {
+        self.count = count;
+        self.parent = parent;
+    }
 }
 
 // How many nodes, particles and holds hang on the node.
@@ -41,15 +50,13 @@ pub(crate) fn parent_of<S>(nodes: &[Node<S>], node: u16) -> Option<u16>
     nodes[node as usize].parent
 }
 
-// The node has this count and this parent, and its state as before.
+// A node of the list is relinked.
 pub(crate) fn relink<S>(nodes: &mut [Node<S>], node: u16, count: u32, parent: Option<u16>)
     requires { node < length nodes.old }
     ensures kept { states nodes.new ≡ states nodes.old }
     ensures links { links nodes.new ≡ slice_set (links nodes.old) node (linked count parent) }
 {
-    let i = node as usize;
-    nodes[i].count = count;
-    nodes[i].parent = parent;
+    nodes[node as usize].relink(count, parent);
 }
 
 // The state at the node. It takes a `&mut`, which is all that a tree has at hand.

@@ -1,6 +1,6 @@
 // The operations of the ancestry tree on its nodes.
 ghost use Rattle.std.specs.Prelude.{◌≡◌, ℕ, ◌+◌, ◌-◌, ◌^◌, ◌<◌, ◌≤◌, length, Some, None, sum_by, Option as Maybe, slice_set};
-ghost use Rattle.cloud.specs.Links.{links, link_at, linked, raised, states, Kept};
+ghost use Rattle.cloud.specs.Links.{links, link_at, linked, raised, states, Keeps};
 ghost use Rattle.cloud.specs.Trees.{Tree, is_node, is_named, is_used, how_many, with_serial, SomeTreeFrom};
 
 use crate::node::{Node, count_of, parent_of, relink, set_state};
@@ -12,10 +12,9 @@ pub(crate) fn make_free<S>(nodes: &mut [Node<S>]) -> Option<u16>
     ensures tree { (serial : ℕ → ℕ) → Tree (links nodes.new) result (length nodes.old) (λ _. 0) serial 0 }
 {
     let mut head = None;
-    for i in 0..nodes.len() {
-        let node = i as u16;
-        relink(nodes, node, 0, head);
-        head = Some(node);
+    for (i, node) in nodes.iter_mut().enumerate() {
+        node.relink(0, head);
+        head = Some(i as u16);
     }
     head
 }
@@ -25,9 +24,8 @@ pub(crate) fn retain<S>(nodes: &mut [Node<S>], node: u16)
     requires within { node < length nodes.old }
     requires used { 0 < (link_at (links nodes.old) node).count }
     requires room { (link_at (links nodes.old) node).count + 1 < 2 ^ 32 }
-    ensures kept { states nodes.new ≡ states nodes.old }
+    ensures kept { Keeps nodes.old nodes.new }
     ensures links { links nodes.new ≡ slice_set (links nodes.old) node (raised (link_at (links nodes.old) node)) }
-    ensures frame { Kept (links nodes.old) (links nodes.new) }
     ensures tree { (head : Maybe ℕ) (free : ℕ) (w serial : ℕ → ℕ) (issued : ℕ) → Tree (links nodes.old) head free w serial issued → Tree (links nodes.new) head free (λ n. w n + is_node n node) serial issued }
 {
     let count = count_of(nodes, node);
@@ -66,8 +64,7 @@ struct Released {
 fn release_one<S>(nodes: &mut [Node<S>], head: Option<u16>, node: u16) -> Released
     requires within { node < length nodes.old }
     requires used { 0 < (link_at (links nodes.old) node).count }
-    ensures kept { states nodes.new ≡ states nodes.old }
-    ensures frame { Kept (links nodes.old) (links nodes.new) }
+    ensures kept { Keeps nodes.old nodes.new }
     ensures fewer { sum_by is_used (links nodes.new) + result.freed ≡ sum_by is_used (links nodes.old) }
     ensures ends { how_many result.next ≤ result.freed }
     ensures tree { (free : ℕ) (w serial : ℕ → ℕ) (issued : ℕ) → Tree (links nodes.old) head free (λ n. w n + is_node n node) serial issued → Tree (links nodes.new) result.head (free + result.freed) (λ n. w n + is_named result.next n) serial issued }
@@ -94,8 +91,7 @@ fn release_one<S>(nodes: &mut [Node<S>], head: Option<u16>, node: u16) -> Releas
 // The first free node, and how many were freed.
 pub(crate) fn release<S>(nodes: &mut [Node<S>], head: Option<u16>, node: u16) -> (Option<u16>, u32)
     requires { SomeTreeFrom (links nodes.old) head (Some node) }
-    ensures kept { states nodes.new ≡ states nodes.old }
-    ensures frame { Kept (links nodes.old) (links nodes.new) }
+    ensures kept { Keeps nodes.old nodes.new }
     ensures tree { (free : ℕ) (w serial : ℕ → ℕ) (issued : ℕ) → Tree (links nodes.old) head free (λ n. w n + is_node n node) serial issued → Tree (links nodes.new) result.0 (free + result.1) w serial issued }
 {
     let mut first = head;

@@ -1,8 +1,10 @@
-use Rattle.cloud.proofs.Links.{relinked, relinked_states}
+use Rattle.std.proofs.Common.{set, ap, ◌∙◌}
+use Rattle.cloud.specs.Links.{links}
+use Rattle.cloud.proofs.Links.{links_set, states_kept}
 use Rattle.cloud.proofs.node.relink.Goals as goal
 
 pub returns : goal.returns
 returns g c = record {
-  kept = relinked_states c.args.nodes.now c.args.node c.index-nodes-i.result c.index-nodes-i-2.result c.args.count c.args.parent c.requires;
-  links = relinked c.args.nodes.now c.args.node c.index-nodes-i.result c.index-nodes-i-2.result c.args.count c.args.parent c.requires;
+  kept = states_kept c.args.nodes.now c.args.node c.index-nodes-node.result c.relink.new.self c.relink.ensures.state c.requires;
+  links = links_set c.args.nodes.now c.args.node c.relink.new.self ∙ ap (set (links c.args.nodes.now) c.args.node) c.relink.ensures.link;
 }

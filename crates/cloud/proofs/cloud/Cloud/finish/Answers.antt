@@ -24,12 +24,12 @@ pub invariant_of-self-2 : goal.invariant_of-self-2
 invariant_of-self-2 g c =
     let left = c.release_all-freed.new.self in
     let law = subst (λ xs. (w serial : ℕ → ℕ) (issued : ℕ) → IsTree c.args.self.now.forest (λ k. w k + sum_by (is_node k) xs) serial issued → IsTree c.release_all-freed.new.self w serial issued) c.deref.ensures.0 c.release_all-freed.ensures.tree in
-    let go = λ (m : Meaning g.row.S.Denot) (q : Supply). finish_granted m q (view c.args.self.now) left.nodes.now left.head left.free c.clear.new.self.items c.release_all-freed.result c.clear.ensures c.release_all-freed.ensures.freed c.release_all-freed.ensures.kept c.release_all-freed.ensures.frame law (search rules) in
+    let go = λ (m : Meaning g.row.S.Denot) (q : Supply). finish_granted m q (view c.args.self.now) left.nodes.now left.head left.free c.clear.new.self.items c.release_all-freed.result c.clear.ensures c.release_all-freed.ensures.freed c.release_all-freed.ensures.kept law (search rules) in
     record { represented = some_free (living_path (view c.args.self.now) (search rules)) go c.args.self.now.represented }
 
 pub returns : goal.returns
 returns g c =
     let left = c.release_all-freed.new.self in
     let law = subst (λ xs. (w serial : ℕ → ℕ) (issued : ℕ) → IsTree c.args.self.now.forest (λ k. w k + sum_by (is_node k) xs) serial issued → IsTree c.release_all-freed.new.self w serial issued) c.deref.ensures.0 c.release_all-freed.ensures.tree in
-    let go = λ (m : Meaning g.row.S.Denot) (q : Supply). finish_granted m q (view c.args.self.now) left.nodes.now left.head left.free c.clear.new.self.items c.release_all-freed.result c.clear.ensures c.release_all-freed.ensures.freed c.release_all-freed.ensures.kept c.release_all-freed.ensures.frame law (search rules) in
+    let go = λ (m : Meaning g.row.S.Denot) (q : Supply). finish_granted m q (view c.args.self.now) left.nodes.now left.head left.free c.clear.new.self.items c.release_all-freed.result c.clear.ensures c.release_all-freed.ensures.freed c.release_all-freed.ensures.kept law (search rules) in
     record { same = tt; rest = refl; steps = λ k m q. (promised k (go m q)).0; runs = λ k m q. (promised k (go m q)).1 }

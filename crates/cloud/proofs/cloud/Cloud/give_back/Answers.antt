@@ -32,11 +32,11 @@ release-freed-requires g c = return_named (view c.args.self.now) c.args.hold.pla
 pub invariant_of-self : goal.invariant_of-self
 invariant_of-self g c =
     let left = c.release-freed.new.self in
-    let go = λ (m : Meaning g.row.S.Denot) (q : Supply). return_granted (view c.args.self.now) c.args.hold.place (open_inside c.args.self.now.holds c.args.hold.place c.in-Some.node (search rules) (sym c.in-Some.ensures)) c.in-Some.node (sym c.in-Some.ensures) left.nodes.now left.head left.free c.release-freed.result c.release-freed.ensures.freed c.release-freed.ensures.kept c.release-freed.ensures.frame c.release-freed.ensures.tree m q c.args.hold.stamp c.if-hold-self.false in
+    let go = λ (m : Meaning g.row.S.Denot) (q : Supply). return_granted (view c.args.self.now) c.args.hold.place (open_inside c.args.self.now.holds c.args.hold.place c.in-Some.node (search rules) (sym c.in-Some.ensures)) c.in-Some.node (sym c.in-Some.ensures) left.nodes.now left.head left.free c.release-freed.result c.release-freed.ensures.freed c.release-freed.ensures.kept c.release-freed.ensures.tree m q c.args.hold.stamp c.if-hold-self.false in
     record { represented = some_free (returned_path (view c.args.self.now) c.args.hold.place c.in-Some.node (open_inside c.args.self.now.holds c.args.hold.place c.in-Some.node (search rules) (sym c.in-Some.ensures)) (sym c.in-Some.ensures)) go c.args.self.now.represented }
 
 pub returns : goal.returns
 returns g c =
     let left = c.release-freed.new.self in
-    let go = λ (m : Meaning g.row.S.Denot) (q : Supply). return_granted (view c.args.self.now) c.args.hold.place (open_inside c.args.self.now.holds c.args.hold.place c.in-Some.node (search rules) (sym c.in-Some.ensures)) c.in-Some.node (sym c.in-Some.ensures) left.nodes.now left.head left.free c.release-freed.result c.release-freed.ensures.freed c.release-freed.ensures.kept c.release-freed.ensures.frame c.release-freed.ensures.tree m q c.args.hold.stamp c.if-hold-self.false in
+    let go = λ (m : Meaning g.row.S.Denot) (q : Supply). return_granted (view c.args.self.now) c.args.hold.place (open_inside c.args.self.now.holds c.args.hold.place c.in-Some.node (search rules) (sym c.in-Some.ensures)) c.in-Some.node (sym c.in-Some.ensures) left.nodes.now left.head left.free c.release-freed.result c.release-freed.ensures.freed c.release-freed.ensures.kept c.release-freed.ensures.tree m q c.args.hold.stamp c.if-hold-self.false in
     record { same = tt; rest = refl; steps = λ k m q. (promised k (go m q)).0; runs = λ k m q. (promised k (go m q)).1 }

@@ -66,7 +66,7 @@ invariant_of-self g c =
     = subst (λ ws. Written ws ((g.R.Source.supply c.args.source.now).to_come 0) (take c.unwrap-n.result c.write_parents.new.row)) c.deref-2.ensures.0 (subst (λ r. Written c.deref-2.result.now r (take c.unwrap-n.result c.write_parents.new.row)) c.next_number-number.ensures.value
     (written c.deref-2.result.now _ c.write_parents.new.row c.next_number-number.result c.unwrap-n.result 256 c.write_parents.result c.next_number-number.type_inv c.write_parents.ensures.reply c.unwrap-n.ensures c.write_parents.ensures.row)) in
     let left = c.resettle-freed.new.self in
-    let go = λ (m : Meaning g.row.S.Denot). resample_granted m (view c.args.self.now) (g.R.Source.supply c.args.source.now) (search rules) (search rules) (take c.unwrap-n.result c.write_parents.new.row) got left.nodes.now left.head left.free c.resettle-freed.new.tips.items (g.R.Source.supply c.next_number-number.new.source) c.resettle-freed.result c.resettle-freed.ensures.freed c.next_number-number.ensures.rest c.resettle-freed.ensures.kept c.resettle-freed.ensures.frame c.resettle-freed.ensures.children c.resettle-freed.ensures.tree in
+    let go = λ (m : Meaning g.row.S.Denot). resample_granted m (view c.args.self.now) (g.R.Source.supply c.args.source.now) (search rules) (search rules) (take c.unwrap-n.result c.write_parents.new.row) got left.nodes.now left.head left.free c.resettle-freed.new.tips.items (g.R.Source.supply c.next_number-number.new.source) c.resettle-freed.result c.resettle-freed.ensures.freed c.next_number-number.ensures.rest c.resettle-freed.ensures.kept c.resettle-freed.ensures.children c.resettle-freed.ensures.tree in
     record { represented = some_living (g.met.R.Source.lawful c.args.source.now) (λ e. weighed_not_empty (sym (search rules) ∙ e)) go c.args.self.now.represented }
 
 pub returns : goal.returns
@@ -75,5 +75,5 @@ returns g c =
     = subst (λ ws. Written ws ((g.R.Source.supply c.args.source.now).to_come 0) (take c.unwrap-n.result c.write_parents.new.row)) c.deref-2.ensures.0 (subst (λ r. Written c.deref-2.result.now r (take c.unwrap-n.result c.write_parents.new.row)) c.next_number-number.ensures.value
     (written c.deref-2.result.now _ c.write_parents.new.row c.next_number-number.result c.unwrap-n.result 256 c.write_parents.result c.next_number-number.type_inv c.write_parents.ensures.reply c.unwrap-n.ensures c.write_parents.ensures.row)) in
     let left = c.resettle-freed.new.self in
-    let go = λ (m : Meaning g.row.S.Denot). resample_granted m (view c.args.self.now) (g.R.Source.supply c.args.source.now) (search rules) (search rules) (take c.unwrap-n.result c.write_parents.new.row) got left.nodes.now left.head left.free c.resettle-freed.new.tips.items (g.R.Source.supply c.next_number-number.new.source) c.resettle-freed.result c.resettle-freed.ensures.freed c.next_number-number.ensures.rest c.resettle-freed.ensures.kept c.resettle-freed.ensures.frame c.resettle-freed.ensures.children c.resettle-freed.ensures.tree in
+    let go = λ (m : Meaning g.row.S.Denot). resample_granted m (view c.args.self.now) (g.R.Source.supply c.args.source.now) (search rules) (search rules) (take c.unwrap-n.result c.write_parents.new.row) got left.nodes.now left.head left.free c.resettle-freed.new.tips.items (g.R.Source.supply c.next_number-number.new.source) c.resettle-freed.result c.resettle-freed.ensures.freed c.next_number-number.ensures.rest c.resettle-freed.ensures.kept c.resettle-freed.ensures.children c.resettle-freed.ensures.tree in
     record { same = tt; rest = refl; count = c.next_number-number.ensures.same; steps = λ k m. (promised k (go m)).0; runs = λ k m. (promised k (go m)).1 }

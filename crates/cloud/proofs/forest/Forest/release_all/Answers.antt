@@ -1,13 +1,12 @@
 use Rattle.std.proofs.Common.{◌+◌, ◌<◌, ◌≤◌, length, refl, ◌∙◌, arith}
 use Rattle.cloud.specs.Links.{links}
 use Rattle.cloud.proofs.ReleasingAll.{release_all_next, release_all_more, release_all_done, release_all_few, release_all_none}
-use Rattle.cloud.proofs.Links.{kept_refl, kept_trans}
+use Rattle.cloud.proofs.Links.{keeps_refl, keeps_trans}
 use Rattle.cloud.proofs.forest.Forest.release_all.Goals as goal
 
 pub loop-node-init : goal.loop-node-init
 loop-node-init g c = record {
-  kept = refl;
-  frame = kept_refl (links c.args.self.now.nodes.now);
+  kept = keeps_refl c.args.self.now.nodes.now;
   freed = omega arith;
   tree = release_all_none (links c.args.self.now.nodes.now) c.args.self.now.head c.args.self.now.free c.args.named.now;
 }
@@ -28,8 +27,7 @@ pub loop-node-preserved : goal.loop-node-preserved
 loop-node-preserved g c =
     let l : c.loop-node.node-index < length c.args.named.now = omega arith in
     record {
-      kept = c.release-freed.ensures.kept ∙ c.loop-node.invariant.kept;
-      frame = kept_trans (links c.args.self.now.nodes.now) (links c.loop-node.self.nodes.now) (links c.release-freed.new.self.nodes.now) c.loop-node.invariant.frame c.release-freed.ensures.frame;
+      kept = keeps_trans c.args.self.now.nodes.now c.loop-node.self.nodes.now c.release-freed.new.self.nodes.now c.loop-node.invariant.kept c.release-freed.ensures.kept;
       freed = omega (arith, c.loop-node.invariant.freed, c.release-freed.ensures.freed);
       tree = release_all_more (links c.args.self.now.nodes.now) (links c.loop-node.self.nodes.now) c.args.self.now.head c.loop-node.self.head c.args.self.now.free c.loop-node.self.free c.args.named.now c.loop-node.node-index c.loop-node.invariant.tree (links c.release-freed.new.self.nodes.now) c.release-freed.new.self.head c.release-freed.new.self.free l c.release-freed.ensures.tree;
     }
@@ -37,7 +35,6 @@ loop-node-preserved g c =
 pub returns : goal.returns
 returns g c = record {
   kept = c.loop-node.invariant.kept;
-  frame = c.loop-node.invariant.frame;
   freed = c.loop-node.invariant.freed;
   tree = release_all_done (links c.args.self.now.nodes.now) (links c.loop-node.self.nodes.now) c.args.self.now.head c.loop-node.self.head c.args.self.now.free c.loop-node.self.free c.args.named.now c.loop-node.node-index c.loop-node.invariant.tree (omega arith);
 }

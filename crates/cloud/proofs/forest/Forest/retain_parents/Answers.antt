@@ -2,14 +2,13 @@ use Rattle.std.proofs.Common.{◌≡◌, ℕ, ◌<◌, length, map, get_or, refl
 use Rattle.std.proofs.lemmas.List.{take_all}
 use Rattle.cloud.specs.Links.{links}
 use Rattle.cloud.proofs.Gathering.{gather_inside, gather_used, gather_room, gather_more, gather_none, children_more}
-use Rattle.cloud.proofs.Links.{kept_refl, kept_trans, length-links}
+use Rattle.cloud.proofs.Links.{keeps_refl, keeps_trans, length-links}
 use Rattle.cloud.proofs.forest.Forest.retain_parents.Goals as goal
 
 pub loop-parent-init : goal.loop-parent-init
 loop-parent-init g c = record {
   number = ap length c.new-children.ensures;
-  kept = refl;
-  frame = kept_refl (links c.args.self.now.nodes.now);
+  kept = keeps_refl c.args.self.now.nodes.now;
   free = refl;
   children = c.new-children.ensures;
   tree = gather_none (links c.args.self.now.nodes.now) c.args.self.now.head c.args.self.now.free c.new-children.result.items c.new-children.ensures;
@@ -36,8 +35,7 @@ loop-parent-preserved g c =
     let l : c.loop-parent.parent-index < length c.args.parents.now = omega arith in
     record {
       number = omega (arith, c.push.ensures.len, c.loop-parent.invariant.number);
-      kept = c.retain.ensures.kept ∙ c.loop-parent.invariant.kept;
-      frame = kept_trans (links c.args.self.now.nodes.now) (links c.loop-parent.self.nodes.now) (links c.retain.new.self.nodes.now) c.loop-parent.invariant.frame c.retain.ensures.frame;
+      kept = keeps_trans c.args.self.now.nodes.now c.loop-parent.self.nodes.now c.retain.new.self.nodes.now c.loop-parent.invariant.kept c.retain.ensures.kept;
       free = c.retain.ensures.free ∙ c.loop-parent.invariant.free;
       children = c.push.ensures.items ∙ children_more c.loop-parent.children.items c.args.old.now c.args.parents.now c.loop-parent.parent-index l c.loop-parent.invariant.children;
       tree = gather_more (links c.args.self.now.nodes.now) (links c.loop-parent.self.nodes.now) (links c.retain.new.self.nodes.now) c.args.self.now.head c.loop-parent.self.head c.retain.new.self.head c.args.self.now.free c.loop-parent.self.free c.retain.new.self.free c.loop-parent.children.items _ (get_or c.args.old.now (get_or c.args.parents.now c.loop-parent.parent-index 0) 0) c.push.ensures.items c.loop-parent.invariant.tree c.retain.ensures.tree;
@@ -46,7 +44,6 @@ loop-parent-preserved g c =
 pub returns : goal.returns
 returns g c = record {
   kept = c.loop-parent.invariant.kept;
-  frame = c.loop-parent.invariant.frame;
   free = c.loop-parent.invariant.free;
   children = c.loop-parent.invariant.children ∙ ap (map (λ k. get_or c.args.old.now k 0)) (take_all c.loop-parent.parent-index c.args.parents.now (omega arith));
   tree = c.loop-parent.invariant.tree;
