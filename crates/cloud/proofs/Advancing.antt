@@ -25,7 +25,7 @@ use Rattle.cloud.specs.declared.node.Node.{Node}
 use Rattle.cloud.specs.Links.{links, states}
 use Rattle.cloud.specs.Trees.{is_node, is_named, Tree}
 use Rattle.cloud.specs.Tracks.{Track, named, Inverse, Moved, SomeMapAll}
-use Rattle.cloud.specs.Representations.{View, Represents, Alike, SomeFilter}
+use Rattle.cloud.specs.Representations.{View, Represents, SomeFilter}
 use Rattle.cloud.specs.Promises.{Follows}
 use Rattle.cloud.proofs.Links.{length-links}
 use Rattle.cloud.proofs.Trees.{tree_same}

@@ -1,9 +1,9 @@
 -- As many serials are in use in the filter as nodes in the tree.
-use Rattle.std.proofs.Common.{◌≡◌, ℕ, zero, suc, ◌+◌, ◌<◌, ◌≤◌, Bool, true, false, ◌||◌, eqb, List, [], ◌∷◌, ◌++◌, map, length, get_or, Some, None, sum_by, Option, sym, refl, ap, ◌∙◌, subst, inl, inr, ⊎_elim, arith}
+use Rattle.std.proofs.Common.{◌≡◌, ℕ, zero, suc, ◌+◌, ◌<◌, Bool, true, false, ◌||◌, eqb, List, [], ◌∷◌, ◌++◌, map, length, get_or, Some, None, sum_by, Option, sym, refl, ap, ◌∙◌, subst, inl, inr, ⊎_elim, arith}
 use Rattle.std.specs.List.{AllByRecursion}
-use Rattle.std.proofs.ByRecursion.{All-append}
+use Rattle.std.proofs.ByRecursion.{All-append, All-from_get_or}
 use Rattle.std.proofs.lemmas.Bool.Decides.{eqb_tells}
-use Rattle.std.proofs.lemmas.List.Sums.{sum_by-cons}
+use Rattle.std.proofs.lemmas.Option.{none-some}
 use Rattle.std.proofs.lemmas.Bool.{cases_eq, cases_lt, cases_Bool, or_left, or_right, eq-eqb, false≢true, or_cases}
 use Rattle.filter.specs.Filters.{PathOf, Filter}
 use Rattle.filter.specs.Uses.{opened, all_paths, serials, member, different, in_use}
@@ -14,30 +14,11 @@ use Rattle.cloud.specs.Tracks.{Track, named}
 use Rattle.cloud.specs.Serials.{total, sign}
 use Rattle.cloud.specs.Representations.{View, Represents, Alike}
 use Rattle.cloud.proofs.Links.{length-links}
-use Rattle.cloud.proofs.Tallies.{is_node_other}
+use Rattle.cloud.proofs.Tallies.{is_node_other, is_node_eq, is_named_eq, sum-pick}
 use Rattle.cloud.proofs.Trees.{named_used}
 use Rattle.cloud.proofs.Naming.{particle_named, place_named}
 use Rattle.cloud.proofs.Exactness.{trees_are_exact, parent_used}
 use Rattle.cloud.proofs.Serials.{serials_count_nodes, sign_zero, sign_one}
-
-pub none_some : {A : Type 0} {x : A} → None ≡ Some x → ⊥
-none_some e = let z : ◌≡◌ {A = ℕ} 0 1 = cc in omega arith
-
--- a sum above 0 has an element above 0
-pub sum-pick : {X : Type 0} (f : X → ℕ) (d : X) (xs : List X) → 0 < sum_by f xs → (m : ℕ) × (m < length xs) × (0 < f (get_or xs m d))
-sum-pick f d [] h = absurd (omega arith)
-sum-pick f d (x ∷ xs) h =
-    ⊎_elim
-    (λ l. (0, omega arith, l))
-    (λ z. let r = sum-pick f d xs (omega (arith, sum_by-cons f x xs)) in (suc r.0, omega (arith, r.1), r.2))
-    (cases_lt 0 (f x))
-
-is_node_eq : (n i : ℕ) → 0 < is_node n i → n ≡ i
-is_node_eq n i h = ⊎_elim (λ e. e) (λ ne. absurd (omega (arith, is_node_other n i ne))) (cases_eq n i)
-
-is_named_eq : (o : Option ℕ) (n : ℕ) → 0 < is_named o n → o ≡ Some n
-is_named_eq None n h = absurd (omega arith)
-is_named_eq (Some p) n h = ap Some (sym (is_node_eq n p h))
 
 sign_one_if : (t : Bool) → sign (one_if t) ≡ one_if t
 unfolding one_if
@@ -57,10 +38,6 @@ members_all (x ∷ xs) b h = (h x (or_left (eqb x x) (member x xs) (eq-eqb x x r
 pub list_count : (xs : List ℕ) (b : ℕ) → ((k : ℕ) → member k xs ≡ true → k < b) → different xs ≡ total (λ k. sign (one_if (member k xs))) b
 list_count xs b h = different_is xs b (members_all xs b h) ∙ count_total (λ s. member s xs) b
 
-pub each_getD : {A : Type 0} (P : A → Type 0) (d : A) (xs : List A) → ((i : ℕ) → i < length xs → P (get_or xs i d)) → AllByRecursion P xs
-each_getD P d [] h = tt
-each_getD P d (x ∷ xs) h = (h 0 (omega arith), each_getD P d xs (λ i l. h (suc i) (omega arith)))
-
 pub each_opened : {S : Type 0} (P : PathOf S → Type 0) (ps : List (Option (PathOf S))) → ((q : ℕ) → q < length ps → (p : PathOf S) → get_or ps q None ≡ Some p → P p) → AllByRecursion P (opened ps)
 each_opened P [] h = tt
 each_opened P (None ∷ ps) h = each_opened P ps (λ q l. h (suc q) (omega arith))
@@ -73,8 +50,8 @@ module _ {S : Type 0} (s : ℕ) where
   in_path (p ∷ ps) (suc i) l h = member_append s (map (λ x. x.serial) p) (serials ps) ∙ or_right _ _ (in_path ps i (omega arith) h)
 
   pub in_place : (ps : List (Option (PathOf S))) (q : ℕ) (p : PathOf S) → get_or ps q None ≡ Some p → member s (map (λ x. x.serial) p) ≡ true → member s (serials (opened ps)) ≡ true
-  in_place [] q p e h = absurd (none_some e)
-  in_place (None ∷ ps) zero p e h = absurd (none_some e)
+  in_place [] q p e h = absurd (none-some _ e)
+  in_place (None ∷ ps) zero p e h = absurd (none-some _ e)
   in_place (None ∷ ps) (suc q) p e h = in_place ps q p e h
   in_place (Some r ∷ ps) zero p e h = let z : r ≡ p = cc in member_append s (map (λ x. x.serial) r) (serials (opened ps)) ∙ or_left _ _ (subst (λ (y : PathOf S). member s (map (λ x. x.serial) y) ≡ true) (sym z) h)
   in_place (Some r ∷ ps) (suc q) p e h = member_append s (map (λ x. x.serial) r) (serials (opened ps)) ∙ or_right _ _ (in_place ps q p e h)
@@ -128,7 +105,7 @@ module _ {S : Type 0} (ls : List Link) (ss : List S) (head : Option ℕ) (free :
 
 module _ {S : Type 0} (node : ℕ → ℕ) (v : View S) (f : Filter S) (h : Represents node v f) where
   place_open : (a : Option ℕ) (b : Option (PathOf S)) (p : PathOf S) → b ≡ Some p → Alike (links v.nodes) (states v.nodes) h.serial a b → (r : ℕ) × (a ≡ Some r) × Track (links v.nodes) (states v.nodes) h.serial (Some r) p
-  place_open None None p e x = absurd (none_some e)
+  place_open None None p e x = absurd (none-some _ e)
   place_open None (Some q) p e x = absurd x
   place_open (Some n) None p e x = absurd x
   place_open (Some n) (Some q) p e x = let z : q ≡ p = cc in (n, refl, subst (λ y. Track (links v.nodes) (states v.nodes) h.serial (Some n) y) z x)
@@ -144,7 +121,7 @@ module _ {S : Type 0} (node : ℕ → ℕ) (v : View S) (f : Filter S) (h : Repr
   pub all_tracked : AllByRecursion (Tracked (links v.nodes) (states v.nodes) v.head v.free (named v.tips v.holds) h.serial f.issued h.tree) (all_paths f)
   unfolding Tracked
   all_tracked = All-append _ f.paths (opened f.places)
-      (each_getD _ [] f.paths (λ i l. let l2 : i < length v.tips = omega (arith, h.number) in (get_or v.tips i 0, particle_w i l2, h.paths_are i l2)))
+      (All-from_get_or _ f.paths [] (λ i l. let l2 : i < length v.tips = omega (arith, h.number) in (get_or v.tips i 0, particle_w i l2, h.paths_are i l2)))
       (each_opened _ f.places (λ q l p e.
       let l2 : q < length v.holds = omega (arith, h.sixteen, h.sound.sixteen_places) in
       let r = place_open (get_or v.holds q None) (get_or f.places q None) p e (h.places_are q (omega (arith, h.sixteen))) in

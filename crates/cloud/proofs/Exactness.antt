@@ -1,25 +1,12 @@
 -- The nodes in use are those on a path.
-use Rattle.std.proofs.Common.{◌≡◌, ℕ, zero, suc, ◌+◌, ◌<◌, ◌≤◌, List, [], ◌∷◌, length, Some, None, sum_by, Option, sym, refl, ap, ◌∙◌, subst, ⊎_elim, arith}
-use Rattle.std.proofs.lemmas.List.Sums.{sum_by-cons, get_or-le-sum_by}
+use Rattle.std.proofs.Common.{◌≡◌, ℕ, zero, suc, ◌+◌, ◌<◌, ◌≤◌, List, [], ◌∷◌, length, Some, None, Option, sym, refl, ap, ◌∙◌, subst, ⊎_elim, arith}
+use Rattle.std.proofs.lemmas.List.Sums.{get_or-le-sum_by}
 use Rattle.std.proofs.lemmas.Bool.{cases_eq, cases_lt}
 use Rattle.cloud.specs.Links.{Link, no_link, link_at}
 use Rattle.cloud.specs.Trees.{is_node, is_named, occurrences, is_child, Chain, Tree}
 use Rattle.cloud.specs.Exactness.{OnPath, TreesAreExact}
-use Rattle.cloud.proofs.Tallies.{is_node_same, is_node_other, is_child_used, is_child_free}
+use Rattle.cloud.proofs.Tallies.{is_node_same, is_node_other, is_child_used, is_child_free, is_named_eq, sum-pick}
 use Rattle.cloud.proofs.Trees.{chain_head, named_used}
-
--- a sum above 0 has an element above 0
-pub sum-above_0 : (f : Link → ℕ) (ls : List Link) → 0 < sum_by f ls → (m : ℕ) × (m < length ls) × (0 < f (link_at ls m))
-sum-above_0 f [] h = absurd (omega arith)
-sum-above_0 f (x ∷ xs) h =
-    ⊎_elim
-    (λ l. (0, omega arith, l))
-    (λ z. let r = sum-above_0 f xs (omega (arith, sum_by-cons f x xs)) in (suc r.0, omega (arith, r.1), r.2))
-    (cases_lt 0 (f x))
-
-is_named_some : (o : Option ℕ) (n : ℕ) → 0 < is_named o n → o ≡ Some n
-is_named_some None n h = absurd (omega arith)
-is_named_some (Some p) n h = ⊎_elim (λ e. ap Some (sym e)) (λ ne. absurd (omega (arith, is_node_other n p ne))) (cases_eq n p)
 
 module _ (ls : List Link) (head : Option ℕ) (free : ℕ) (w serial : ℕ → ℕ) (issued : ℕ) (t : Tree ls head free w serial issued) where
   -- the parent of a node in use is in use
@@ -68,9 +55,9 @@ module _ (ls : List Link) (head : Option ℕ) (free : ℕ) (w serial : ℕ → �
       let o2 : occurrences n p.0 ≡ is_node n n + occurrences n hc.0 = ap (occurrences n) hc.1 in
       (n, p.0, r, p.1, omega (arith, o2, is_node_same n)))
       (λ z.
-      let m = sum-above_0 (is_child n) ls (omega (arith, t.counts n l)) in
+      let m = sum-pick (is_child n) no_link ls (omega (arith, t.counts n l)) in
       let lm : 0 < (link_at ls m.0).count = ⊎_elim (λ q. q) (λ q. absurd (omega (arith, is_child_free n (link_at ls m.0) (omega arith), m.2))) (cases_lt 0 (link_at ls m.0).count) in
-      let b : (link_at ls m.0).parent ≡ Some n = is_named_some (link_at ls m.0).parent n (omega (arith, is_child_used n (link_at ls m.0) lm, m.2)) in
+      let b : (link_at ls m.0).parent ≡ Some n = is_named_eq (link_at ls m.0).parent n (omega (arith, is_child_used n (link_at ls m.0) lm, m.2)) in
       let r = on_path fuel m.0 m.1 lm (omega (arith, (t.older m.0 n m.1 lm b).1)) in
       (r.0, r.1, r.2, r.3, parent_on_path (Some r.0) r.1 m.0 n r.3 r.4 b))
       (cases_lt 0 (w n))

@@ -1,5 +1,5 @@
 -- The ways through a finish.
-use Rattle.std.proofs.Common.{◌≡◌, ℕ, ◌+◌, ◌<◌, List, [], length, get_or, Some, None, sum_by, Option, sym, refl, ap, ◌∙◌, subst, arith}
+use Rattle.std.proofs.Common.{◌≡◌, ℕ, ◌+◌, ◌<◌, List, [], length, get_or, None, sum_by, Option, sym, refl, ap, ◌∙◌, arith}
 use mathlib.Core.Logic.{∥∥₁_map}
 use Rattle.refusals.specs.declared.Refusal.TheVariants.{WrongPhase}
 use Rattle.sources.specs.Supplies.{Supply}
@@ -16,7 +16,7 @@ use Rattle.cloud.specs.declared.node.Node.{Node}
 use Rattle.cloud.specs.Links.{links, states, Keeps}
 use Rattle.cloud.specs.Trees.{is_node, is_named, Tree, SomeTreeAll}
 use Rattle.cloud.specs.Tracks.{named}
-use Rattle.cloud.specs.Representations.{View, Represents, Alike, SomeFilter}
+use Rattle.cloud.specs.Representations.{View, Represents, SomeFilter}
 use Rattle.cloud.specs.Promises.{Follows}
 use Rattle.cloud.proofs.Trees.{tree_same}
 use Rattle.cloud.proofs.Naming.{place_named}

@@ -1,6 +1,6 @@
 -- Reading and writing links.
 use Rattle.std.proofs.Common.{◌≡◌, ℕ, ◌<◌, ◌≢◌, List, length, get_or, set, Option, sym, refl, ap, ◌∙◌, subst, ⊎_elim}
-use Rattle.std.proofs.lemmas.List.{length-map, map-set, get_or-map, set-get_or, set-set, get_or-set_same, get_or-set_other}
+use Rattle.std.proofs.lemmas.List.{length-map, map-set, get_or-map, set-get_or, get_or-set_same, get_or-set_other}
 use Rattle.std.proofs.lemmas.Bool.{cases_eq}
 use Rattle.cloud.specs.declared.node.Node.{Node}
 use Rattle.cloud.specs.Links.{links, link, linked, states, Link, no_link, link_at, Kept, Keeps}

@@ -1,5 +1,5 @@
 -- The ways through a resampling.
-use Rattle.std.proofs.Common.{◌≡◌, ℕ, zero, suc, ◌+◌, ◌^◌, ◌<◌, ◌≤◌, Bool, true, false, cond, ltb, leb, List, [], ◌∷◌, ◌++◌, map, length, get_or, take, drop, Some, None, Ok, Err, sum_by, Option, Result, sym, refl, ap, ◌∙◌, subst, arith}
+use Rattle.std.proofs.Common.{◌≡◌, ℕ, ◌+◌, ◌^◌, ◌<◌, ◌≤◌, Bool, true, false, cond, ltb, leb, List, [], ◌++◌, map, length, get_or, take, drop, Some, None, Ok, Err, sum_by, Option, Result, sym, refl, ap, ◌∙◌, subst, arith}
 use mathlib.Core.Logic.{∥∥₁_map}
 use Rattle.std.proofs.lemmas.List.{length-map, get_or-map}
 use Rattle.std.proofs.Math.Seq.{take-append_seam}
@@ -26,7 +26,7 @@ use Rattle.cloud.specs.declared.node.Node.{Node}
 use Rattle.cloud.specs.Links.{links, states, Keeps}
 use Rattle.cloud.specs.Trees.{is_node, is_named, Tree}
 use Rattle.cloud.specs.Tracks.{Track, named, SomeTreeFew}
-use Rattle.cloud.specs.Representations.{View, Represents, Alike, SomeFilter}
+use Rattle.cloud.specs.Representations.{View, Represents, SomeFilter}
 use Rattle.cloud.specs.Promises.{Taken, Follows}
 use Rattle.cloud.proofs.Trees.{tree_same}
 use Rattle.cloud.proofs.Naming.{place_named, particle_named, few_by, is_named_le}

@@ -1,7 +1,8 @@
 -- The ways through a hold.
-use Rattle.std.proofs.Common.{◌≡◌, ℕ, zero, suc, ◌+◌, ◌^◌, ◌<◌, ◌≤◌, true, false, ltb, List, [], ◌∷◌, length, get_or, set, Some, None, sum_by, Option, sym, refl, ap, ◌∙◌, subst, ⊎_elim, arith}
+use Rattle.std.proofs.Common.{◌≡◌, ℕ, zero, suc, ◌+◌, ◌^◌, ◌<◌, ◌≤◌, true, false, ltb, List, [], ◌∷◌, length, get_or, set, Some, None, Option, sym, refl, ap, ◌∙◌, subst, ⊎_elim, arith}
 use mathlib.Core.Logic.{∥∥₁_elim}
 use native.Mathlib.Bridge.{le_prop}
+use Rattle.std.proofs.lemmas.Option.{none-some}
 use Rattle.std.proofs.lemmas.Bool.{lt-ltb, le-ltb, cases_eq}
 use Rattle.std.proofs.lemmas.List.{length-set, get_or-set_same, get_or-set_other}
 use Rattle.refusals.specs.declared.Refusal.TheVariants.{WrongPhase, OutOfRange, NoPlaceLeft}
@@ -30,9 +31,6 @@ use Rattle.cloud.proofs.Keeping.{living, freed_by, same_nodes, same_links, track
 abbrev pub held_view : {S : Type 0} → View S → ℕ → ℕ → List (Node S) → Option ℕ → ℕ → View S
 held_view v tip place nodes head free = record { nodes = nodes; head = head; free = free; tips = v.tips; weights = v.weights; holds = set v.holds place (Some tip); phase = v.phase; round = v.round; stamp = v.stamp }
 
-some_none : {A : Type 0} {x : A} → Some x ≡ None → ⊥
-some_none e = let z : ◌≡◌ {A = ℕ} 0 1 = cc in omega arith
-
 no_closed : {A : Type 0} (ps : List (Option A)) → ((j : ℕ) → j < length ps → get_or ps j None ≡ None → ⊥) → some_closed ps ≡ false
 no_closed [] h = refl
 no_closed (None ∷ ps) h = absurd (h 0 (omega arith) refl)
@@ -41,18 +39,18 @@ no_closed (Some p ∷ ps) h = no_closed ps (λ j l e. h (suc j) (omega arith) e)
 one_closed : {A : Type 0} (ps : List (Option A)) (j : ℕ) → j < length ps → get_or ps j None ≡ None → some_closed ps ≡ true
 one_closed [] j l e = absurd (omega arith)
 one_closed (None ∷ ps) j l e = refl
-one_closed (Some p ∷ ps) zero l e = absurd (some_none e)
+one_closed (Some p ∷ ps) zero l e = absurd (none-some _ (sym e))
 one_closed (Some p ∷ ps) (suc j) l e = one_closed ps j (omega arith) e
 
 alike_closed : {S : Type 0} (ls : List Link) (ss : List S) (serial : ℕ → ℕ) (a : Option ℕ) (b : Option (PathOf S)) → Alike ls ss serial a b → b ≡ None → a ≡ None
 alike_closed ls ss serial None b x e = refl
 alike_closed ls ss serial (Some n) None x e = absurd x
-alike_closed ls ss serial (Some n) (Some p) x e = absurd (some_none e)
+alike_closed ls ss serial (Some n) (Some p) x e = absurd (none-some _ (sym e))
 
 pub closed_alike : {S : Type 0} (ls : List Link) (ss : List S) (serial : ℕ → ℕ) (a : Option ℕ) (b : Option (PathOf S)) → Alike ls ss serial a b → a ≡ None → b ≡ None
 closed_alike ls ss serial a None x e = refl
 closed_alike ls ss serial None (Some p) x e = absurd x
-closed_alike ls ss serial (Some n) (Some p) x e = absurd (some_none e)
+closed_alike ls ss serial (Some n) (Some p) x e = absurd (none-some _ (sym e))
 
 -- the node of a particle is in use, and one thing more can hang on it
 module _ {S : Type 0} (v : View S) (s : SomeFilter v) (i : ℕ) (li : i < length v.tips) (high : length v.tips ≤ 256) where

@@ -1,6 +1,7 @@
 -- The ways through a give back.
-use Rattle.std.proofs.Common.{◌≡◌, ℕ, zero, suc, ◌+◌, ◌<◌, ◌≤◌, eqb, ◌≢◌, List, [], ◌∷◌, length, get_or, set, is_some, Some, None, sum_by, Option, sym, refl, ap, ◌∙◌, subst, ⊎_elim, arith}
+use Rattle.std.proofs.Common.{◌≡◌, ℕ, ◌+◌, ◌<◌, eqb, ◌≢◌, List, [], ◌∷◌, length, get_or, set, is_some, Some, None, Option, sym, refl, ap, ◌∙◌, subst, ⊎_elim, arith}
 use mathlib.Core.Logic.{∥∥₁_map}
+use Rattle.std.proofs.lemmas.Option.{none-some}
 use Rattle.std.proofs.lemmas.Bool.{cases_eq, cases_lt, and_from, and_left, and_right, eq-eqb, ne_eqb}
 use Rattle.std.proofs.lemmas.List.{length-set, get_or-set_same, get_or-set_other, get_or_past}
 use Rattle.refusals.specs.declared.Refusal.TheVariants.{NotHeld}
@@ -23,7 +24,6 @@ use Rattle.cloud.proofs.Naming.{particle_named, place_named, named_set}
 use Rattle.cloud.proofs.Stepping.{taken_refused, taken_granted, stay_all, alike_stays}
 use Rattle.cloud.proofs.Keeping.{freed_by, same_nodes, same_links, track_on}
 use Rattle.cloud.proofs.Retaining.{closed_alike}
-use Rattle.cloud.proofs.Counting.{none_some}
 
 -- the cloud with a place closed, once its tree is so
 abbrev pub returned_view : {S : Type 0} → View S → ℕ → List (Node S) → Option ℕ → ℕ → View S
@@ -57,7 +57,7 @@ module _ {S : Type 0} (m : Meaning S) (q : Supply) (v : View S) (stamp p : ℕ) 
 
 -- an open place is one of the sixteen
 pub open_inside : (holds : List (Option ℕ)) (p nd : ℕ) → length holds ≡ 16 → get_or holds p None ≡ Some nd → p < 16
-open_inside holds p nd sixteen e = ⊎_elim (λ l. l) (λ l. absurd (none_some (sym (get_or_past holds p None (omega arith)) ∙ e))) (cases_lt p 16)
+open_inside holds p nd sixteen e = ⊎_elim (λ l. l) (λ l. absurd (none-some _ (sym (get_or_past holds p None (omega arith)) ∙ e))) (cases_lt p 16)
 
 module _ {S : Type 0} (v : View S) (p : ℕ) (lp : p < 16) (nd : ℕ) (at_p : get_or v.holds p None ≡ Some nd) where
   -- the tree, with the hold's name of its node apart

@@ -1,8 +1,8 @@
 -- The numbers 0 and 1 that say which node is meant, whether it is in use, and whose child it is.
-use Rattle.std.proofs.Common.{◌≡◌, ℕ, ◌+◌, ◌<◌, ◌≤◌, ◌≢◌, List, length, get_or, set, Some, None, sum_by, Option, refl, ap, ⊎_elim, arith}
-use Rattle.std.proofs.lemmas.List.Sums.{sum_by-set}
+use Rattle.std.proofs.Common.{◌≡◌, ℕ, suc, ◌+◌, ◌<◌, ◌≤◌, ◌≢◌, List, [], ◌∷◌, length, get_or, set, Some, None, sum_by, Option, sym, refl, ap, ⊎_elim, arith}
+use Rattle.std.proofs.lemmas.List.Sums.{sum_by-set, sum_by-cons}
 use Rattle.std.proofs.ByRecursion.{sum_by_le, All-from_get_or}
-use Rattle.std.proofs.lemmas.Bool.{eq-eqb, ne_eqb, cases_eq}
+use Rattle.std.proofs.lemmas.Bool.{eq-eqb, ne_eqb, cases_eq, cases_lt}
 use Rattle.cloud.specs.Links.{linked, Link, no_link, link_at}
 use Rattle.cloud.specs.Trees.{how_many, is_node, is_named, is_used, is_child, with_serial}
 
@@ -65,3 +65,19 @@ used_le ls = let b = sum_by_le is_used 1 ls (All-from_get_or (λ l. is_used l �
 
 pub all_zero : (f : Link → ℕ) (ls : List Link) → ((i : ℕ) → i < length ls → f (link_at ls i) ≡ 0) → sum_by f ls ≡ 0
 all_zero f ls h = let b = sum_by_le f 0 ls (All-from_get_or (λ l. f l ≤ 0) ls no_link (λ i l. omega (arith, h i l))) in omega arith
+
+-- a sum above 0 has an element above 0
+pub sum-pick : {X : Type 0} (f : X → ℕ) (d : X) (xs : List X) → 0 < sum_by f xs → (m : ℕ) × (m < length xs) × (0 < f (get_or xs m d))
+sum-pick f d [] h = absurd (omega arith)
+sum-pick f d (x ∷ xs) h =
+    ⊎_elim
+    (λ l. (0, omega arith, l))
+    (λ z. let r = sum-pick f d xs (omega (arith, sum_by-cons f x xs)) in (suc r.0, omega (arith, r.1), r.2))
+    (cases_lt 0 (f x))
+
+pub is_node_eq : (n i : ℕ) → 0 < is_node n i → n ≡ i
+is_node_eq n i h = ⊎_elim (λ e. e) (λ ne. absurd (omega (arith, is_node_other n i ne))) (cases_eq n i)
+
+pub is_named_eq : (o : Option ℕ) (n : ℕ) → 0 < is_named o n → o ≡ Some n
+is_named_eq None n h = absurd (omega arith)
+is_named_eq (Some p) n h = ap Some (sym (is_node_eq n p h))

@@ -15,6 +15,7 @@ pub struct Cloud<'a, S> {
     // the newest node of each particle
     pub(crate) tips: ArrayVec<u16, 256>,
     pub(crate) weights: ArrayVec<u16, 256>,
+    // the node of each open place
     pub(crate) holds: [Option<u16>; 16],
     pub(crate) phase: Phase,
     pub(crate) round: u32,

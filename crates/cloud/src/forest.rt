@@ -17,6 +17,7 @@ use models::state::State;
 use sources::Source;
 
 // Nodes that the caller lends, with the first free one and how many are free.
+// A node is named by its number, since a cloud works in lent memory and has no heap.
 #[derive(Drop)]
 pub(crate) struct Forest<'a, S> {
     pub(crate) nodes: &'a mut [Node<S>],
@@ -25,6 +26,7 @@ pub(crate) struct Forest<'a, S> {
 }
 
 // A tree with no node in use, over the first 65,536 nodes at most.
+// It takes its part of what it is lent, so that it asks nothing of the caller.
 pub(crate) fn make<S>(nodes: &mut [Node<S>]) -> Forest<S>
     ensures size { length result.nodes.now ≡ min (length nodes.old) 65536 }
     ensures tree { (serial : ℕ → ℕ) → IsTree result (λ _. 0) serial 0 }

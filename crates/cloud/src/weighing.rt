@@ -65,6 +65,7 @@ impl<S: State> Cloud<'_, S> {
         }
         total_weight(&self.weights)?;
         let number = next_number(source);
+        // the parents go into a row of the caller's, with no heap
         let mut parents = [0; 256];
         let n = write_parents(&self.weights, number, &mut parents).unwrap();
         let freed = self.forest.resettle(&mut self.tips, &parents[..n]);

@@ -4,7 +4,7 @@ use Rattle.models.specs.Meanings.{Meaning}
 use Rattle.cloud.specs.Views.{view}
 use Rattle.cloud.proofs.Going.{promised}
 use Rattle.cloud.proofs.Returning.{returned_path, return_other_stamp, return_closed, open_inside, return_named, return_granted}
-use Rattle.cloud.proofs.Stepping.{some_free, same_cloud}
+use Rattle.cloud.proofs.Stepping.{some_free}
 use Rattle.cloud.proofs.cloud.Cloud.give_back.Goals as goal
 
 pub returns-then-hold-self : goal.returns-then-hold-self

@@ -1,4 +1,4 @@
-use Rattle.std.proofs.Common.{◌+◌, ◌^◌, ◌<◌, ◌≤◌, length, get_or, sym, refl, ap, ◌∙◌, subst, arith, rules}
+use Rattle.std.proofs.Common.{◌+◌, ◌^◌, ◌<◌, length, get_or, sym, refl, ap, ◌∙◌, subst, arith, rules}
 use Rattle.sources.specs.Supplies.{Supply}
 use Rattle.models.specs.Meanings.{Meaning}
 use Rattle.cloud.specs.Links.{link_at}
@@ -17,25 +17,17 @@ returns-then-eq g c = record {
   runs = λ k m q. (promised k (hold_wrong_phase m q (view c.args.self.now) c.args.particle (search rules))).1;
 }
 
-pub returns-in_default : goal.returns-in_default
-returns-in_default g c =
-    let beyond : length c.args.self.now.tips.items ≤ c.args.particle = omega (arith, c.in_default.ensures.lookup.3, ap length c.deref.ensures.0) in
-    record {
-      same = refl;
-      rest = refl;
-      steps = λ k m q. (promised k (hold_out_of_range m q (view c.args.self.now) c.args.particle (search rules) beyond)).0;
-      runs = λ k m q. (promised k (hold_out_of_range m q (view c.args.self.now) c.args.particle (search rules) beyond)).1;
-    }
+pub returns-in_default-clause-steps : goal.returns-in_default-clause-steps
+returns-in_default-clause-steps g c k m q = (promised k (hold_out_of_range m q (view c.args.self.now) c.args.particle (search rules) (omega (arith, c.in_default.ensures.lookup.3, ap length c.deref.ensures.0)))).0
 
-pub returns-in_default-first_closed : goal.returns-in_default-first_closed
-returns-in_default-first_closed g c =
-    let inside : c.args.particle < length c.args.self.now.tips.items = omega (arith, c.in-Some.ensures.lookup.3.0, ap length c.deref.ensures.0) in
-    record {
-      same = refl;
-      rest = refl;
-      steps = λ k m q. (promised k (hold_no_place m q (view c.args.self.now) c.args.particle (search rules) inside c.in_default-first_closed.ensures)).0;
-      runs = λ k m q. (promised k (hold_no_place m q (view c.args.self.now) c.args.particle (search rules) inside c.in_default-first_closed.ensures)).1;
-    }
+pub returns-in_default-clause-runs : goal.returns-in_default-clause-runs
+returns-in_default-clause-runs g c k m q = (promised k (hold_out_of_range m q (view c.args.self.now) c.args.particle (search rules) (omega (arith, c.in_default.ensures.lookup.3, ap length c.deref.ensures.0)))).1
+
+pub returns-in_default-first_closed-clause-steps : goal.returns-in_default-first_closed-clause-steps
+returns-in_default-first_closed-clause-steps g c k m q = (promised k (hold_no_place m q (view c.args.self.now) c.args.particle (search rules) (omega (arith, c.in-Some.ensures.lookup.3.0, ap length c.deref.ensures.0)) c.in_default-first_closed.ensures)).0
+
+pub returns-in_default-first_closed-clause-runs : goal.returns-in_default-first_closed-clause-runs
+returns-in_default-first_closed-clause-runs g c k m q = (promised k (hold_no_place m q (view c.args.self.now) c.args.particle (search rules) (omega (arith, c.in-Some.ensures.lookup.3.0, ap length c.deref.ensures.0)) c.in_default-first_closed.ensures)).1
 
 pub retain-requires : goal.retain-requires
 retain-requires g c =

@@ -1,6 +1,5 @@
-use Rattle.std.proofs.Common.{◌≡◌, ◌<◌, length, sym, refl, ap, ◌∙◌, arith}
+use Rattle.std.proofs.Common.{◌≡◌, length, sym, refl, ap, ◌∙◌, arith}
 use Rattle.std.proofs.lemmas.List.{length-map}
-use Rattle.sources.specs.Supplies.{after}
 use Rattle.sources.proofs.Draws.{after_none}
 use Rattle.cloud.specs.Links.{links, states}
 use Rattle.cloud.proofs.Drawing.{can_now, number_now, rest_now}
@@ -19,14 +18,8 @@ loop-init g c = record {
 pub next_number-requires : goal.next_number-requires
 next_number-requires g c = can_now (g.R.Source.supply c.args.source.now) _ (g.met.R.Source.lawful c.args.source.now) c.loop.counter c.args.n (omega arith) c.requires.supplied c.loop.invariant.rest
 
-pub issue-requires : goal.issue-requires
-issue-requires g c = record {
-  room = omega (arith, c.loop.invariant.free, c.requires.room);
-  tree = born_some_tree (links c.args.self.now.nodes.now) (links c.loop.self.nodes.now) (states c.args.self.now.nodes.now) (states c.loop.self.nodes.now) c.args.self.now.head c.loop.self.head c.args.self.now.free c.loop.self.free c.loop.tips.items _ c.loop.invariant.born c.requires.map;
-}
-
-pub push-requires : goal.push-requires
-push-requires g c = (omega arith, omega (arith, c.loop.invariant.number, c.requires.few))
+pub issue-requires-clause-tree : goal.issue-requires-clause-tree
+issue-requires-clause-tree g c = born_some_tree (links c.args.self.now.nodes.now) (links c.loop.self.nodes.now) (states c.args.self.now.nodes.now) (states c.loop.self.nodes.now) c.args.self.now.head c.loop.self.head c.args.self.now.free c.loop.self.free c.loop.tips.items _ c.loop.invariant.born c.requires.map
 
 pub loop-preserved : goal.loop-preserved
 loop-preserved g c =
@@ -42,15 +35,4 @@ loop-preserved g c =
           born_step (links c.args.self.now.nodes.now) (links c.loop.self.nodes.now) (links c.issue.new.self.nodes.now) (states c.args.self.now.nodes.now) (states c.loop.self.nodes.now) (states c.issue.new.self.nodes.now) c.loop.self.head c.issue.new.self.head c.loop.self.free c.issue.new.self.free c.loop.tips.items c.push.new.self.items _ c.issue.result c.birth-state.result w serial node issued c.push.ensures.items lt
           (c.birth-state.ensures ∙ ap (g.M.Model.meaning c.args.model.now).birth (c.next_number.ensures.value ∙ number_now s _ c.loop.counter c.loop.invariant.rest ∙ ap s.to_come count))
           c.issue.ensures.first c.issue.ensures.next c.issue.ensures.links c.issue.ensures.states c.issue.ensures.free (c.loop.invariant.born w serial node issued t inv);
-    }
-
-pub returns : goal.returns
-returns g c =
-    let e : c.loop.counter ≡ c.args.n = omega arith in
-    record {
-      number = c.loop.invariant.number ∙ e;
-      rest = c.loop.invariant.rest ∙ ap (λ k. after k (g.R.Source.supply c.args.source.now)) e;
-      same = c.loop.invariant.same;
-      free = omega (arith, c.loop.invariant.free);
-      born = c.loop.invariant.born;
     }

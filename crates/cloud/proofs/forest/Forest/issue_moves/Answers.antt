@@ -1,6 +1,5 @@
-use Rattle.std.proofs.Common.{◌≡◌, length, get_or, set, Some, sym, refl, ap, ◌∙◌, subst, arith, rules}
+use Rattle.std.proofs.Common.{◌≡◌, length, get_or, set, Some, sym, refl, ap, ◌∙◌, subst, arith}
 use Rattle.std.proofs.lemmas.List.{length-map}
-use Rattle.sources.specs.Supplies.{after}
 use Rattle.sources.proofs.Draws.{after_none}
 use Rattle.cloud.specs.Links.{links, states, linked, link_at}
 use Rattle.cloud.specs.Trees.{SomeTree}
@@ -19,6 +18,9 @@ loop-tip-init g c = record {
   moved = moved_none (links c.args.self.now.nodes.now) (states c.args.self.now.nodes.now) c.args.self.now.head c.args.self.now.free c.args.tips.now _;
 }
 
+pub issue-requires-clause-tree : goal.issue-requires-clause-tree
+issue-requires-clause-tree g c = subst (λ xs. SomeTree (links xs) c.loop-tip.self.head c.loop-tip.self.free) (sym c.state_of-old.ensures.kept) (moved_some_tree (links c.args.self.now.nodes.now) (links c.loop-tip.self.nodes.now) (states c.args.self.now.nodes.now) (states c.loop-tip.self.nodes.now) c.args.self.now.head c.loop-tip.self.head c.args.self.now.free c.loop-tip.self.free c.args.tips.now c.loop-tip.tips _ c.loop-tip.tip-index c.loop-tip.invariant.moved c.requires.map)
+
 pub state_of-old-requires : goal.state_of-old-requires
 state_of-old-requires g c =
     let x = moved_inside (links c.args.self.now.nodes.now) (links c.loop-tip.self.nodes.now) (states c.args.self.now.nodes.now) (states c.loop-tip.self.nodes.now) c.args.self.now.head c.loop-tip.self.head c.args.self.now.free c.loop-tip.self.free c.args.tips.now c.loop-tip.tips _ c.loop-tip.tip-index c.loop-tip.invariant.moved c.requires.map (omega arith) in
@@ -26,12 +28,6 @@ state_of-old-requires g c =
 
 pub next_number-requires : goal.next_number-requires
 next_number-requires g c = can_now (g.R.Source.supply c.args.source.now) _ (g.met.R.Source.lawful c.args.source.now) c.loop-tip.tip-index (length c.args.tips.now) (omega arith) c.requires.supplied c.loop-tip.invariant.rest
-
-pub issue-requires : goal.issue-requires
-issue-requires g c = record {
-  room = omega (arith, c.loop-tip.invariant.free, c.requires.room);
-  tree = subst (λ xs. SomeTree (links xs) c.loop-tip.self.head c.loop-tip.self.free) (sym c.state_of-old.ensures.kept) (moved_some_tree (links c.args.self.now.nodes.now) (links c.loop-tip.self.nodes.now) (states c.args.self.now.nodes.now) (states c.loop-tip.self.nodes.now) c.args.self.now.head c.loop-tip.self.head c.args.self.now.free c.loop-tip.self.free c.args.tips.now c.loop-tip.tips _ c.loop-tip.tip-index c.loop-tip.invariant.moved c.requires.map);
-}
 
 pub loop-tip-preserved : goal.loop-tip-preserved
 loop-tip-preserved g c =
@@ -52,12 +48,7 @@ loop-tip-preserved g c =
           c.issue.ensures.free (c.loop-tip.invariant.moved w serial node issued t inv);
     }
 
-pub returns : goal.returns
-returns g c =
+pub returns-clause-moved : goal.returns-clause-moved
+returns-clause-moved g c =
     let e : c.loop-tip.tip-index ≡ length c.args.tips.now = omega arith in
-    record {
-      rest = c.loop-tip.invariant.rest ∙ ap (λ k. after k (g.R.Source.supply c.args.source.now)) e;
-      same = c.loop-tip.invariant.same;
-      free = omega (arith, c.loop-tip.invariant.free);
-      moved = subst (Longer c.args.self.now c.loop-tip.self c.args.tips.now c.loop-tip.tips (λ k s. guarded_move g.S.State.kind (g.M.Model.meaning c.args.model.now) s c.args.command ((g.R.Source.supply c.args.source.now).to_come k))) e c.loop-tip.invariant.moved;
-    }
+    subst (Longer c.args.self.now c.loop-tip.self c.args.tips.now c.loop-tip.tips (λ k s. guarded_move g.S.State.kind (g.M.Model.meaning c.args.model.now) s c.args.command ((g.R.Source.supply c.args.source.now).to_come k))) e c.loop-tip.invariant.moved

@@ -1,15 +1,8 @@
-use Rattle.std.proofs.Common.{◌+◌, ◌<◌, ◌≤◌, length, refl, ◌∙◌, arith}
+use Rattle.std.proofs.Common.{◌+◌, ◌<◌, ◌≤◌, length, arith}
 use Rattle.cloud.specs.Links.{links}
-use Rattle.cloud.proofs.ReleasingAll.{release_all_next, release_all_more, release_all_done, release_all_few, release_all_none}
-use Rattle.cloud.proofs.Links.{keeps_refl, keeps_trans}
+use Rattle.cloud.proofs.ReleasingAll.{release_all_next, release_all_more, release_all_done, release_all_few}
+use Rattle.cloud.proofs.Links.{keeps_trans}
 use Rattle.cloud.proofs.forest.Forest.release_all.Goals as goal
-
-pub loop-node-init : goal.loop-node-init
-loop-node-init g c = record {
-  kept = keeps_refl c.args.self.now.nodes.now;
-  freed = omega arith;
-  tree = release_all_none (links c.args.self.now.nodes.now) c.args.self.now.head c.args.self.now.free c.args.named.now;
-}
 
 pub release-freed-requires : goal.release-freed-requires
 release-freed-requires g c =
@@ -32,9 +25,5 @@ loop-node-preserved g c =
       tree = release_all_more (links c.args.self.now.nodes.now) (links c.loop-node.self.nodes.now) c.args.self.now.head c.loop-node.self.head c.args.self.now.free c.loop-node.self.free c.args.named.now c.loop-node.node-index c.loop-node.invariant.tree (links c.release-freed.new.self.nodes.now) c.release-freed.new.self.head c.release-freed.new.self.free l c.release-freed.ensures.tree;
     }
 
-pub returns : goal.returns
-returns g c = record {
-  kept = c.loop-node.invariant.kept;
-  freed = c.loop-node.invariant.freed;
-  tree = release_all_done (links c.args.self.now.nodes.now) (links c.loop-node.self.nodes.now) c.args.self.now.head c.loop-node.self.head c.args.self.now.free c.loop-node.self.free c.args.named.now c.loop-node.node-index c.loop-node.invariant.tree (omega arith);
-}
+pub returns-clause-tree : goal.returns-clause-tree
+returns-clause-tree g c = release_all_done (links c.args.self.now.nodes.now) (links c.loop-node.self.nodes.now) c.args.self.now.head c.loop-node.self.head c.args.self.now.free c.loop-node.self.free c.args.named.now c.loop-node.node-index c.loop-node.invariant.tree (omega arith)

@@ -1,9 +1,8 @@
-use Rattle.std.proofs.Common.{◌≡◌, ℕ, ◌+◌, sum_by, sym, ap, ◌∙◌, subst}
+use Rattle.std.proofs.Common.{ℕ, ◌+◌, sum_by, sym, subst}
 use Rattle.cloud.specs.Links.{links}
 use Rattle.cloud.specs.Trees.{is_node}
 use Rattle.cloud.specs.Forests.{IsTree, HasTreeAll, HasTreeFew}
 use Rattle.cloud.proofs.Gathering.{gather_held, swapped}
-use Rattle.cloud.proofs.Links.{keeps_trans}
 use Rattle.cloud.proofs.forest.Forest.resettle.Goals as goal
 
 pub retain_parents-children-requires-clause-tree : goal.retain_parents-children-requires-clause-tree
@@ -13,9 +12,6 @@ pub release_all-freed-requires : goal.release_all-freed-requires
 release_all-freed-requires g c =
     subst (HasTreeAll c.retain_parents-children.new.self) (sym c.deref-2.ensures.0)
     (gather_held (links c.args.self.now.nodes.now) (links c.retain_parents-children.new.self.nodes.now) c.args.self.now.head c.retain_parents-children.new.self.head c.args.self.now.free c.retain_parents-children.new.self.free c.args.tips.now.items c.retain_parents-children.result.items c.retain_parents-children.ensures.tree c.requires.tree)
-
-pub returns-clause-kept : goal.returns-clause-kept
-returns-clause-kept g c = keeps_trans c.args.self.now.nodes.now c.retain_parents-children.new.self.nodes.now c.release_all-freed.new.self.nodes.now c.retain_parents-children.ensures.kept c.release_all-freed.ensures.kept
 
 pub returns-clause-tree : goal.returns-clause-tree
 returns-clause-tree g c =

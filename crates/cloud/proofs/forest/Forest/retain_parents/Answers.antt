@@ -1,18 +1,8 @@
-use Rattle.std.proofs.Common.{◌≡◌, ℕ, ◌<◌, length, map, get_or, refl, ap, ◌∙◌, arith}
-use Rattle.std.proofs.lemmas.List.{take_all}
+use Rattle.std.proofs.Common.{ℕ, ◌<◌, length, get_or, refl, ◌∙◌, arith}
 use Rattle.cloud.specs.Links.{links}
-use Rattle.cloud.proofs.Gathering.{gather_inside, gather_used, gather_room, gather_more, gather_none, children_more}
-use Rattle.cloud.proofs.Links.{keeps_refl, keeps_trans, length-links}
+use Rattle.cloud.proofs.Gathering.{gather_inside, gather_used, gather_room, gather_more, children_more}
+use Rattle.cloud.proofs.Links.{keeps_trans, length-links}
 use Rattle.cloud.proofs.forest.Forest.retain_parents.Goals as goal
-
-pub loop-parent-init : goal.loop-parent-init
-loop-parent-init g c = record {
-  number = ap length c.new-children.ensures;
-  kept = keeps_refl c.args.self.now.nodes.now;
-  free = refl;
-  children = c.new-children.ensures;
-  tree = gather_none (links c.args.self.now.nodes.now) c.args.self.now.head c.args.self.now.free c.new-children.result.items c.new-children.ensures;
-}
 
 pub retain-requires : goal.retain-requires
 retain-requires g c =
@@ -27,9 +17,6 @@ retain-requires g c =
       room = gather_room ls ms c.args.self.now.head c.loop-parent.self.head c.args.self.now.free c.loop-parent.self.free c.args.old.now c.loop-parent.children.items c.loop-parent.invariant.tree c.requires.tree node p below refl c.requires.few (omega (arith, c.loop-parent.invariant.number, c.requires.fits));
     }
 
-pub push-requires : goal.push-requires
-push-requires g c = (omega arith, omega (arith, c.loop-parent.invariant.number, c.requires.fits))
-
 pub loop-parent-preserved : goal.loop-parent-preserved
 loop-parent-preserved g c =
     let l : c.loop-parent.parent-index < length c.args.parents.now = omega arith in
@@ -40,11 +27,3 @@ loop-parent-preserved g c =
       children = c.push.ensures.items ∙ children_more c.loop-parent.children.items c.args.old.now c.args.parents.now c.loop-parent.parent-index l c.loop-parent.invariant.children;
       tree = gather_more (links c.args.self.now.nodes.now) (links c.loop-parent.self.nodes.now) (links c.retain.new.self.nodes.now) c.args.self.now.head c.loop-parent.self.head c.retain.new.self.head c.args.self.now.free c.loop-parent.self.free c.retain.new.self.free c.loop-parent.children.items _ (get_or c.args.old.now (get_or c.args.parents.now c.loop-parent.parent-index 0) 0) c.push.ensures.items c.loop-parent.invariant.tree c.retain.ensures.tree;
     }
-
-pub returns : goal.returns
-returns g c = record {
-  kept = c.loop-parent.invariant.kept;
-  free = c.loop-parent.invariant.free;
-  children = c.loop-parent.invariant.children ∙ ap (map (λ k. get_or c.args.old.now k 0)) (take_all c.loop-parent.parent-index c.args.parents.now (omega arith));
-  tree = c.loop-parent.invariant.tree;
-}

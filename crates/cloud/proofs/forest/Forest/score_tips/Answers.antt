@@ -1,30 +1,10 @@
-use Rattle.std.proofs.Common.{◌≡◌, ◌+◌, ◌<◌, length, get_or, sym, refl, ap, ◌∙◌, subst, arith, rules}
+use Rattle.std.proofs.Common.{◌<◌, get_or, sym, ap, ◌∙◌, arith, rules}
 use Rattle.std.proofs.lemmas.List.Sums.{sum_by_push}
 use Rattle.resampling.specs.Marks.{total}
 use Rattle.cloud.specs.Links.{states}
 use Rattle.cloud.specs.Guards.{guarded_score}
 use Rattle.cloud.proofs.ScoringTips.{scores_more}
 use Rattle.cloud.proofs.forest.Forest.score_tips.Goals as goal
-
-pub loop-tip-init : goal.loop-tip-init
-loop-tip-init g c = record {
-  number = ap length c.clear.ensures;
-  same = refl;
-  scores = λ i d l. absurd (omega arith);
-  sum = sym (ap total c.clear.ensures);
-  bound = omega arith;
-}
-
-pub state_of-state-requires : goal.state_of-state-requires
-state_of-state-requires g c = subst (λ f. get_or c.args.tips.now c.loop-tip.tip-index 0 < length f.nodes.now) (sym c.loop-tip.invariant.same) (c.requires.inside c.loop-tip.tip-index (omega arith))
-
-pub push-requires : goal.push-requires
-push-requires g c = (omega arith, omega (arith, c.loop-tip.invariant.number, c.requires.few))
-
-pub overflow_add-sum : goal.overflow_add-sum
-overflow_add-sum g c =
-    let b : c.score_of-weight.result < 65536 = search rules in
-    omega (arith, b, c.loop-tip.invariant.bound, c.requires.few)
 
 pub loop-tip-preserved : goal.loop-tip-preserved
 loop-tip-preserved g c =
@@ -39,11 +19,3 @@ loop-tip-preserved g c =
       sum = omega (arith, c.from-sum.ensures, c.loop-tip.invariant.sum, ap total c.push.ensures.items, sum_by_push (λ x. x) c.loop-tip.weights.items c.score_of-weight.result);
       bound = omega (arith, b, c.loop-tip.invariant.bound, c.from-sum.ensures);
     }
-
-pub returns : goal.returns
-returns g c = record {
-  same = c.loop-tip.invariant.same;
-  number = c.loop-tip.invariant.number ∙ (omega arith);
-  scores = λ i d l. c.loop-tip.invariant.scores i d (omega arith);
-  sum = c.loop-tip.invariant.sum;
-}

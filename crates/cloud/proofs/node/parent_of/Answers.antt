@@ -1,6 +1,0 @@
-use Rattle.std.proofs.Common.{sym, ap}
-use Rattle.cloud.proofs.Links.{link_at_links}
-use Rattle.cloud.proofs.node.parent_of.Goals as goal
-
-pub returns : goal.returns
-returns g c = sym (ap (λ l. l.parent) (link_at_links c.args.nodes.now c.args.node c.index-nodes-node.result c.requires))
