@@ -5,10 +5,11 @@ mod echo;
 mod numbers;
 
 use echo::Echo;
+use fields::input::read_input;
 use logs::line::Program;
-use logs::run::{LONGEST_INPUT, write_report};
+use logs::run::write_report;
 use std::fmt;
-use std::io::{Read, Stdout, Write};
+use std::io::{Stdout, Write};
 
 #[derive(Drop)]
 struct Out {
@@ -23,10 +24,7 @@ impl fmt::Write for Out {
 
 fn main(rt: HostRuntime) -> anyhow::Result<()> {
     let heap = rt.alloc();
-    let mut input = Vec::new(heap);
-    rt.stdin()
-        .take(LONGEST_INPUT as u64 + 1)
-        .read_to_end(&mut input)?;
+    let input = read_input(heap, rt.stdin())?;
     let mut row = vec![in heap; 0u32; 8]?;
     let mut f = fmt::Formatter::new(Out { out: rt.stdout() });
     for program in [Program::Locate, Program::Lift] {

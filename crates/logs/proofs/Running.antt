@@ -1,23 +1,24 @@
 -- One line more of a report. Assumes nothing.
 use Rattle.std.proofs.Common.{◌≡◌, ℕ, ◌+◌, ◌≤◌, true, false, cond, eqb, List, [], ◌∷◌, ◌++◌, length, Result, ap, append_assoc, arith}
 use Rattle.refusals.specs.declared.Refusal.{Refusal}
-use Rattle.fields.specs.Cuts.{onto, lines}
+use Rattle.std.specs.List.{onto_first}
+use Rattle.fields.specs.Cuts.{lines}
 use Rattle.logs.specs.declared.line.Program.{Program}
 use Rattle.logs.specs.declared.line.Line.{Line}
 use Rattle.logs.specs.Reports.{entry_text}
 use Rattle.logs.specs.Runs.{Told, served, report, state_after}
 
-onto-le : (b : ℕ) (ps : List (List ℕ)) → length (onto b ps) ≤ length ps + 1
-onto-le b [] = omega arith
-onto-le b (p ∷ ps) = omega arith
+length-onto_first-le : (b : ℕ) (ps : List (List ℕ)) → length (onto_first b ps) ≤ length ps + 1
+length-onto_first-le b [] = omega arith
+length-onto_first-le b (p ∷ ps) = omega arith
 
 -- a text has no more lines than bytes
 pub lines-le : (bs : List ℕ) → length (lines bs) ≤ length bs
 lines-le [] = omega arith
 lines-le (b ∷ bs) =
-    elim (eqb b 10) as (λ t. length (cond t ([] ∷ lines bs) (onto b (lines bs))) ≤ length (b ∷ bs)) [
+    elim (eqb b 10) as (λ t. length (cond t ([] ∷ lines bs) (onto_first b (lines bs))) ≤ length (b ∷ bs)) [
       | true ↦ omega (arith, lines-le bs)
-      | false ↦ omega (arith, onto-le b (lines bs), lines-le bs)
+      | false ↦ omega (arith, length-onto_first-le b (lines bs), lines-le bs)
     ]
 
 -- line k is told of, as number n

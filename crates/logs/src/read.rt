@@ -41,17 +41,20 @@ const PARTICLE_LIMIT: u32 = u16::MAX as u32;
 fn known_letter(program: Program, first: &[u8]) -> Option<Letter>
     ensures { result ≡ only_letter program first.now }
 {
-    match (first, program) {
-        (b"M", Program::Locate) => Some(Letter::Map),
-        (b"G", Program::Locate) => Some(Letter::Seed),
-        (b"D", Program::Lift) => Some(Letter::Record),
-        (b"S", _) => Some(Letter::Start),
-        (b"A", _) => Some(Letter::Advance),
-        (b"W", _) => Some(Letter::Weigh),
-        (b"R", _) => Some(Letter::Resample),
-        (b"E", _) => Some(Letter::Share),
-        (b"P", _) => Some(Letter::Path),
-        (b"F", _) => Some(Letter::Finish),
+    let [letter] = first else {
+        return None;
+    };
+    match (char::from(*letter), program) {
+        ('M', Program::Locate) => Some(Letter::Map),
+        ('G', Program::Locate) => Some(Letter::Seed),
+        ('D', Program::Lift) => Some(Letter::Record),
+        ('S', _) => Some(Letter::Start),
+        ('A', _) => Some(Letter::Advance),
+        ('W', _) => Some(Letter::Weigh),
+        ('R', _) => Some(Letter::Resample),
+        ('E', _) => Some(Letter::Share),
+        ('P', _) => Some(Letter::Path),
+        ('F', _) => Some(Letter::Finish),
         _ => None,
     }
 }

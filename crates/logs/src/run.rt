@@ -11,10 +11,9 @@ use crate::lines::Lines;
 use crate::machine::Machine;
 use crate::read::read_line;
 use crate::reply::Reply;
+pub use fields::input::LONGEST_INPUT;
 use fields::written::AfterCommas;
 use std::fmt;
-
-pub const LONGEST_INPUT: usize = 32768;
 
 // One line read and obeyed.
 fn serve<M: Machine>(
