@@ -117,34 +117,34 @@ module _ {S : Type 0} (m : Meaning S) (c : ℕ) (v : View S) (q : Supply) where
             got = law held h.serial node f.issued split h.inverse
 
             same_nodes : length v'.nodes ≡ length v.nodes
-            same_nodes = sym (length-links v'.nodes) ∙ got.size ∙ length-links v.nodes
+            same_nodes = sym (length-links v'.nodes) ∙ got.grown.size ∙ length-links v.nodes
 
-            longer_track : (i : ℕ) (p : PathOf S) → i < length v.tips → Track (links v.nodes) (states v.nodes) h.serial (Some (get_or v.tips i 0)) p → Track (links v'.nodes) (states v'.nodes) got.serial' (Some (get_or v'.tips i 0)) (longer m f c i p)
+            longer_track : (i : ℕ) (p : PathOf S) → i < length v.tips → Track (links v.nodes) (states v.nodes) h.serial (Some (get_or v.tips i 0)) p → Track (links v'.nodes) (states v'.nodes) got.grown.serial' (Some (get_or v'.tips i 0)) (longer m f c i p)
             longer_track i [] l r = absurd (let z : ◌≡◌ {A = ℕ} 0 1 = cc in omega arith)
             longer_track i (x ∷ p) l r =
-                subst (λ (s : Supply). Track (links v'.nodes) (states v'.nodes) got.serial' (Some (get_or v'.tips i 0)) (record { state = m.move x.state c (s.to_come i); serial = f.issued + i } ∷ x ∷ p)) (sym src) (got.longer i x p l r)
+                subst (λ (s : Supply). Track (links v'.nodes) (states v'.nodes) got.grown.serial' (Some (get_or v'.tips i 0)) (record { state = m.move x.state c (s.to_come i); serial = f.issued + i } ∷ x ∷ p)) (sym src) (got.longer i x p l r)
 
             path_at : (i : ℕ) → i < length v.tips → get_or (all_longer m f c 0 f.paths) i [] ≡ longer m f c i (get_or f.paths i [])
             path_at i l = getD_longer m f c 0 f.paths i (omega (arith, h.number)) ∙ ap (λ j. longer m f c j (get_or f.paths i [])) (let z : 0 + i ≡ i = omega arith in z)
 
-            advanced : Represents got.node' v' (granted m f (advance c) 0)
+            advanced : Represents got.grown.node' v' (granted m f (advance c) 0)
             unfolding held
             advanced = record {
               sound = sound_granted m f h.sound (advance c) 0 open_call;
-              serial = got.serial';
-              tree = subst (λ k. Tree (links v'.nodes) v'.head v'.free (named v'.tips v'.holds) got.serial' (f.issued + k)) (sym h.number)
-                  (tree_same (links v'.nodes) v'.head v'.free (λ k. held k + sum_by (is_node k) v'.tips) (named v'.tips v'.holds) got.serial' (f.issued + length v.tips)
-                  (λ k. omega arith) got.tree);
-              inverse = got.inverse;
+              serial = got.grown.serial';
+              tree = subst (λ k. Tree (links v'.nodes) v'.head v'.free (named v'.tips v'.holds) got.grown.serial' (f.issued + k)) (sym h.number)
+                  (tree_same (links v'.nodes) v'.head v'.free (λ k. held k + sum_by (is_node k) v'.tips) (named v'.tips v'.holds) got.grown.serial' (f.issued + length v.tips)
+                  (λ k. omega arith) got.grown.tree);
+              inverse = got.grown.inverse;
               number = length-longer m f c 0 f.paths ∙ h.number ∙ sym en;
               paths_are = λ i l.
                   let l2 : i < length v.tips = omega arith in
-                  subst (λ p. Track (links v'.nodes) (states v'.nodes) got.serial' (Some (get_or v'.tips i 0)) p) (sym (path_at i l2)) (longer_track i (get_or f.paths i []) l2 (h.paths_are i l2));
+                  subst (λ p. Track (links v'.nodes) (states v'.nodes) got.grown.serial' (Some (get_or v'.tips i 0)) p) (sym (path_at i l2)) (longer_track i (get_or f.paths i []) l2 (h.paths_are i l2));
               sixteen = h.sixteen;
               places_are = λ j l.
                   let l2 : j < length v.holds = omega (arith, h.sixteen) in
-                  alike_stays (links v.nodes) (links v'.nodes) (states v.nodes) (states v'.nodes) h.serial got.serial' (get_or v.holds j None) (get_or f.places j None)
-                  (λ k p e r. got.stays (Some k) p (λ x y. let z : k ≡ x = cc in subst (λ a. 0 < sum_by (λ o. is_named o a) v.holds) z (let pe = place_named [] v.holds j k l2 e in omega (arith, pe))) r)
+                  alike_stays (links v.nodes) (links v'.nodes) (states v.nodes) (states v'.nodes) h.serial got.grown.serial' (get_or v.holds j None) (get_or f.places j None)
+                  (λ k p e r. got.grown.stays (Some k) p (λ x y. let z : k ≡ x = cc in subst (λ a. 0 < sum_by (λ o. is_named o a) v.holds) z (let pe = place_named [] v.holds j k l2 e in omega (arith, pe))) r)
                   (h.places_are j l);
               phase = sym level_now;
               round = ap (λ k. k + 1) h.round;
@@ -155,7 +155,7 @@ module _ {S : Type 0} (m : Meaning S) (c : ℕ) (v : View S) (q : Supply) where
 
           pub advance_granted : (n : ℕ) → n ≡ length v.tips → Follows m (advance c) (done n 0 nothing) v q v' q'
           advance_granted n many node f h src =
-              let g = got node f h src in
+              let g = (got node f h src).grown in
               let a = in_use_represented node v f h in
               let b = in_use_represented g.node' v' (granted m f (advance c) 0) (advanced node f h src) in
               let len = same_nodes node f h src in

@@ -7,6 +7,7 @@ pub mod Exactness
 pub mod Serials
 pub mod ReleasingAll
 pub mod Tracking
+pub mod Growths
 pub mod Births
 pub mod Moves
 pub mod Naming

@@ -4,15 +4,14 @@ use mathlib.Core.Logic.{∥∥₁_elim, ∥∥₁_map}
 use native.Mathlib.Bridge.{le_prop}
 use Rattle.std.proofs.lemmas.List.{length-set, get_or-set_same, get_or-set_other}
 use Rattle.std.proofs.lemmas.List.Sums.{sum_by-set, get_or-le-sum_by}
-use Rattle.std.proofs.lemmas.Bool.{cases_eq, cases_lt}
+use Rattle.std.proofs.lemmas.Bool.{cases_eq}
 use Rattle.filter.specs.Filters.{Pair, PathOf}
 use Rattle.cloud.specs.Links.{Link, linked, link_at}
 use Rattle.cloud.specs.Trees.{is_node, Tree, SomeTree, with_serial}
 use Rattle.cloud.specs.Tracks.{Track, IsNamed, Inverse, Moved, SomeMapAll}
-use Rattle.cloud.proofs.Links.{link_at_other}
-use Rattle.cloud.proofs.Tallies.{is_node_same, is_node_other, with_serial_same, with_serial_other}
-use Rattle.cloud.proofs.Trees.{named_used, tree_issue, head_free, tree_same}
-use Rattle.cloud.proofs.Tracking.{issue_stays, issue_longer}
+use Rattle.cloud.proofs.Tallies.{is_node_same, is_node_other}
+use Rattle.cloud.proofs.Trees.{named_used}
+use Rattle.cloud.proofs.Growths.{path_on, path_longer, grown_more, grown_none}
 
 -- what names a node, without the path at place i
 pub less : (ℕ → ℕ) → List ℕ → ℕ → ℕ → ℕ
@@ -43,100 +42,64 @@ module _ (w : ℕ → ℕ) (fs : List ℕ) (i : ℕ) (h : i < length fs) where
 
 -- one path more made longer
 module _ {S : Type 0} (ls ms : List Link) (ss ts : List S) (free : ℕ) (es row : List ℕ) (news : ℕ → S → S) (i nd : ℕ) (old state : S) (w serial node : ℕ → ℕ) (issued : ℕ) (li : i < length row) (lt : length ts ≡ length ms) (read : (d : S) → old ≡ get_or ts (get_or row i 0) d) (new : state ≡ news i old) (g : Moved ls ms ss ts (Some nd) free es row news i w serial node issued) where
-  moved_w : ℕ → ℕ
-  moved_w = less w row i
+  others : ℕ → ℕ
+  others = less w row i
 
-  moved_t : Tree ms (Some nd) free (λ k. moved_w k + is_node k (get_or row i 0)) g.serial' (issued + i)
-  unfolding moved_w
-  moved_t = tree_same ms (Some nd) free (λ k. w k + sum_by (is_node k) row) (λ k. less w row i k + is_node k (get_or row i 0)) g.serial' (issued + i)
-      (λ k. less_add w row i li k) g.tree
+  apart : (k : ℕ) → w k + sum_by (is_node k) row ≡ others k + is_node k (get_or row i 0)
+  unfolding others
+  apart k = sym (less_add w row i li k)
 
-  moved_free : (nd < length ms) × ((link_at ms nd).count ≤ 0)
-  moved_free = head_free ms nd free (λ k. moved_w k + is_node k (get_or row i 0)) g.serial' (issued + i) moved_t
+  rest : (k : ℕ) → w k ≤ others k
+  unfolding others
+  rest = less_rest w row i li
 
-  moved_on : (o : Option ℕ) (p : PathOf S) → IsNamed moved_w o → Track ms ts g.serial' o p → Track (set ms nd (linked 1 (Some (get_or row i 0)))) (set ts nd state) (with_serial g.serial' nd (issued + i)) o p
-  moved_on = issue_stays ms ts nd free (Some (get_or row i 0)) state moved_w g.serial' (issued + i) lt moved_t
+  now : (k : ℕ) → w k + sum_by (is_node k) (set row i nd) ≡ others k + is_node k nd
+  unfolding others
+  now k = less_set w row i li k nd
 
-  moved_other : (j : ℕ) → j < length row → j ≢ i → IsNamed moved_w (Some (get_or row j 0))
-  unfolding moved_w
-  moved_other j l ne r e =
+  named_other : (j : ℕ) → j < length row → j ≢ i → IsNamed others (Some (get_or row j 0))
+  unfolding others
+  named_other j l ne r e =
       let z : get_or row j 0 ≡ r = cc in
       subst (λ x. 0 < less w row i x) z (less_other w row i li j l ne)
 
-  moved_row : (k : ℕ) → w k + sum_by (is_node k) (set row i nd) ≡ moved_w k + is_node k nd
-  unfolding moved_w
-  moved_row k = less_set w row i li k nd
-
-  there_before : (k : ℕ) → 0 < (link_at (set ms nd (linked 1 (Some (get_or row i 0)))) k).count → k ≢ nd → 0 < (link_at ms k).count
-  there_before k q ne = subst (λ x. 0 < x.count) (link_at_other ms nd k (linked 1 (Some (get_or row i 0))) ne) q
+  on : (o : Option ℕ) (p : PathOf S) → IsNamed others o → Track ms ts g.grown.serial' o p → Track (set ms nd (linked 1 (Some (get_or row i 0)))) (set ts nd state) (with_serial g.grown.serial' nd (issued + i)) o p
+  on = path_on ls ms ss ts free i nd (Some (get_or row i 0)) state (λ k. w k + sum_by (is_node k) row) others w serial node issued lt apart rest g.grown
 
   -- the state read is that of the path's newest pair
-  new_state : (x : Pair S) (p : PathOf S) → Track ms ts g.serial' (Some (get_or row i 0)) (x ∷ p) → state ≡ news i x.state
+  new_state : (x : Pair S) (p : PathOf S) → Track ms ts g.grown.serial' (Some (get_or row i 0)) (x ∷ p) → state ≡ news i x.state
   new_state x p (k, e, l, s, d, r) =
       let z : get_or row i 0 ≡ k = cc in
       new ∙ ap (news i) (read old ∙ ap (λ y. get_or ts y old) z ∙ d old)
 
   pub moved_more : Moved ls (set ms nd (linked 1 (Some (get_or row i 0)))) ss (set ts nd state) (link_at ms nd).parent (free - 1) es (set row i nd) news (i + 1) w serial node issued
-  unfolding moved_w
+  unfolding grown_more
   moved_more = record {
-    serial' = with_serial g.serial' nd (issued + i);
-    node' = with_serial g.node' (issued + i) nd;
-    size = length-set ms nd (linked 1 (Some (get_or row i 0))) ∙ g.size;
-    tree =
-        let q : (issued + i) + 1 ≡ issued + (i + 1) = omega arith in
-        subst (λ v. Tree (set ms nd (linked 1 (Some (get_or row i 0)))) (link_at ms nd).parent (free - 1) (λ k. w k + sum_by (is_node k) (set row i nd)) (with_serial g.serial' nd (issued + i)) v) q
-        (tree_same _ _ _ (λ k. moved_w k + is_node k nd) (λ k. w k + sum_by (is_node k) (set row i nd)) _ _ moved_row (tree_issue ms nd free (Some (get_or row i 0)) moved_w g.serial' (issued + i) moved_t));
-    inverse = λ k l q. ⊎_elim
-        (λ e. subst (λ x. with_serial g.node' (issued + i) nd (with_serial g.serial' nd (issued + i) x) ≡ x) (sym e) (ap (with_serial g.node' (issued + i) nd) (with_serial_same g.serial' nd (issued + i)) ∙ with_serial_same g.node' (issued + i) nd))
-        (λ ne.
-        let lk : k < length ms = omega (arith, length-set ms nd (linked 1 (Some (get_or row i 0)))) in
-        let c = there_before k q ne in
-        let p = g.tree.past k lk c in
-        ap (with_serial g.node' (issued + i) nd) (with_serial_other g.serial' nd (issued + i) k ne) ∙ with_serial_other g.node' (issued + i) nd (g.serial' k) (omega (arith, p)) ∙ g.inverse k lk c)
-        (cases_eq k nd);
-    older = λ s l. with_serial_other g.node' (issued + i) nd s (omega arith) ∙ g.older s l;
-    fresh = λ s l l2. ⊎_elim
-        (λ e.
-        let z : (link_at ls nd).count ≡ 0 = ⊎_elim (λ q. absurd (omega (arith, g.grows nd q, moved_free.1))) (λ q. omega arith) (cases_lt 0 (link_at ls nd).count) in
-        subst (λ x. (link_at ls (with_serial g.node' (issued + i) nd x)).count ≡ 0) (sym e) (subst (λ x. (link_at ls x).count ≡ 0) (sym (with_serial_same g.node' (issued + i) nd)) z))
-        (λ ne. subst (λ x. (link_at ls x).count ≡ 0) (sym (with_serial_other g.node' (issued + i) nd s ne)) (g.fresh s l (omega arith)))
-        (cases_eq s (issued + i));
-    grows = λ k q.
-        let c = g.grows k q in
-        let ne : k ≢ nd = λ e. let z : 0 < (link_at ms nd).count = subst (λ x. 0 < (link_at ms x).count) e c in omega (arith, moved_free.1) in
-        subst (λ x. 0 < x.count) (sym (link_at_other ms nd k (linked 1 (Some (get_or row i 0))) ne)) c;
-    stays = λ o p e r. moved_on o p (λ q z. omega (arith, e q z, less_rest w row i li q)) (g.stays o p e r);
+    grown = grown_more ls ms ss ts free i nd (Some (get_or row i 0)) state (λ k. w k + sum_by (is_node k) row) others w serial node issued lt apart rest g.grown (λ k. w k + sum_by (is_node k) (set row i nd)) (i + 1) now refl;
     longer = λ j x p l r. ⊎_elim
         (λ e.
-        let r' : Track ms ts g.serial' (Some (get_or row i 0)) (x ∷ p) = subst (λ y. Track ms ts g.serial' (Some (get_or row y 0)) (x ∷ p)) e (g.ahead j (x ∷ p) (omega arith) (omega arith) r) in
-        let r2 = issue_longer ms ts nd free (Some (get_or row i 0)) state moved_w g.serial' (issued + i) lt moved_t (x ∷ p) r' in
+        let r' : Track ms ts g.grown.serial' (Some (get_or row i 0)) (x ∷ p) = subst (λ y. Track ms ts g.grown.serial' (Some (get_or row y 0)) (x ∷ p)) e (g.ahead j (x ∷ p) (omega arith) (omega arith) r) in
+        let r2 = path_longer ls ms ss ts free i nd (Some (get_or row i 0)) state (λ k. w k + sum_by (is_node k) row) others w serial node issued lt apart rest g.grown (x ∷ p) r' in
         let n2 : nd ≡ get_or (set row i nd) j 0 = subst (λ y. nd ≡ get_or (set row i nd) y 0) (sym e) (sym (get_or-set_same row i nd 0 (omega arith))) in
-        subst (λ y. Track (set ms nd (linked 1 (Some (get_or row i 0)))) (set ts nd state) (with_serial g.serial' nd (issued + i)) (Some (get_or (set row i nd) j 0)) (record { state = news y x.state; serial = issued + y } ∷ x ∷ p)) (sym e)
-        (subst (λ y. Track (set ms nd (linked 1 (Some (get_or row i 0)))) (set ts nd state) (with_serial g.serial' nd (issued + i)) (Some y) (record { state = news i x.state; serial = issued + i } ∷ x ∷ p)) n2
-        (subst (λ y. Track (set ms nd (linked 1 (Some (get_or row i 0)))) (set ts nd state) (with_serial g.serial' nd (issued + i)) (Some nd) (record { state = y; serial = issued + i } ∷ x ∷ p)) (new_state x p r') r2)))
+        subst (λ y. Track (set ms nd (linked 1 (Some (get_or row i 0)))) (set ts nd state) (with_serial g.grown.serial' nd (issued + i)) (Some (get_or (set row i nd) j 0)) (record { state = news y x.state; serial = issued + y } ∷ x ∷ p)) (sym e)
+        (subst (λ y. Track (set ms nd (linked 1 (Some (get_or row i 0)))) (set ts nd state) (with_serial g.grown.serial' nd (issued + i)) (Some y) (record { state = news i x.state; serial = issued + i } ∷ x ∷ p)) n2
+        (subst (λ y. Track (set ms nd (linked 1 (Some (get_or row i 0)))) (set ts nd state) (with_serial g.grown.serial' nd (issued + i)) (Some nd) (record { state = y; serial = issued + i } ∷ x ∷ p)) (new_state x p r') r2)))
         (λ ne.
         let r' = g.longer j x p (omega arith) r in
-        subst (λ y. Track (set ms nd (linked 1 (Some (get_or row i 0)))) (set ts nd state) (with_serial g.serial' nd (issued + i)) (Some y) (record { state = news j x.state; serial = issued + j } ∷ x ∷ p)) (sym (get_or-set_other row i j nd 0 ne))
-        (moved_on (Some (get_or row j 0)) (record { state = news j x.state; serial = issued + j } ∷ x ∷ p) (moved_other j (omega (arith, l)) ne) r'))
+        subst (λ y. Track (set ms nd (linked 1 (Some (get_or row i 0)))) (set ts nd state) (with_serial g.grown.serial' nd (issued + i)) (Some y) (record { state = news j x.state; serial = issued + j } ∷ x ∷ p)) (sym (get_or-set_other row i j nd 0 ne))
+        (on (Some (get_or row j 0)) (record { state = news j x.state; serial = issued + j } ∷ x ∷ p) (named_other j (omega (arith, l)) ne) r'))
         (cases_eq j i);
     ahead = λ j p l l2 r.
         let ne : j ≢ i = omega arith in
         let l3 : j < length row = omega (arith, length-set row i nd) in
-        subst (λ y. Track (set ms nd (linked 1 (Some (get_or row i 0)))) (set ts nd state) (with_serial g.serial' nd (issued + i)) (Some y) p) (sym (get_or-set_other row i j nd 0 ne))
-        (moved_on (Some (get_or row j 0)) p (moved_other j l3 ne) (g.ahead j p (omega arith) l3 r));
+        subst (λ y. Track (set ms nd (linked 1 (Some (get_or row i 0)))) (set ts nd state) (with_serial g.grown.serial' nd (issued + i)) (Some y) p) (sym (get_or-set_other row i j nd 0 ne))
+        (on (Some (get_or row j 0)) p (named_other j l3 ne) (g.ahead j p (omega arith) l3 r));
   }
 
 pub moved_none : {S : Type 0} (ls : List Link) (ss : List S) (head : Option ℕ) (free : ℕ) (row : List ℕ) (news : ℕ → S → S) (w serial node : ℕ → ℕ) (issued : ℕ) → Tree ls head free (λ k. w k + sum_by (is_node k) row) serial issued → Inverse ls serial node → Moved ls ls ss ss head free row row news 0 w serial node issued
+unfolding grown_none
 moved_none ls ss head free row news w serial node issued t inv = record {
-  serial' = serial;
-  node' = node;
-  size = refl;
-  tree = let q : issued ≡ issued + 0 = omega arith in subst (λ v. Tree ls head free (λ k. w k + sum_by (is_node k) row) serial v) q t;
-  inverse = inv;
-  older = λ s l. refl;
-  fresh = λ s l l2. absurd (omega arith);
-  grows = λ k q. q;
-  stays = λ o p _ r. r;
+  grown = grown_none ls ss head free (λ k. w k + sum_by (is_node k) row) w serial node issued t inv;
   longer = λ j x p l r. absurd (omega arith);
   ahead = λ j p _ _ r. r;
 }
@@ -153,9 +116,9 @@ moved_step ls ms ms' ss ts ts' head head' free free' es row news i nd old state 
 -- what the next turn may ask
 module _ {S : Type 0} (ls ms : List Link) (ss ts : List S) (head head' : Option ℕ) (free free' : ℕ) (es row : List ℕ) (news : ℕ → S → S) (i : ℕ) (inv : (w serial node : ℕ → ℕ) (issued : ℕ) → Tree ls head free (λ k. w k + sum_by (is_node k) es) serial issued → Inverse ls serial node → Moved ls ms ss ts head' free' es row news i w serial node issued) (r : SomeMapAll ls head free es) where
   pub moved_some_tree : SomeTree ms head' free'
-  moved_some_tree = ∥∥₁_map r (λ (w, serial, node, issued, t, v). let g = inv w serial node issued t v in ((λ k. w k + sum_by (is_node k) row), g.serial', issued + i, g.tree))
+  moved_some_tree = ∥∥₁_map r (λ (w, serial, node, issued, t, v). let g = inv w serial node issued t v in ((λ k. w k + sum_by (is_node k) row), g.grown.serial', issued + i, g.grown.tree))
 
   pub moved_inside : i < length row → get_or row i 0 < length ms
   moved_inside li = ∥∥₁_elim r le_prop (λ (w, serial, node, issued, t, v).
       let g = inv w serial node issued t v in
-      (named_used ms head' free' (λ k. w k + sum_by (is_node k) row) g.serial' (issued + i) (get_or row i 0) g.tree (omega (arith, get_or-le-sum_by (is_node (get_or row i 0)) row i 0 li, is_node_same (get_or row i 0)))).0)
+      (named_used ms head' free' (λ k. w k + sum_by (is_node k) row) g.grown.serial' (issued + i) (get_or row i 0) g.grown.tree (omega (arith, get_or-le-sum_by (is_node (get_or row i 0)) row i 0 li, is_node_same (get_or row i 0)))).0)

@@ -100,29 +100,29 @@ module _ {S : Type 0} (m : Meaning S) (n : ℕ) (v : View S) (q : Supply) where
             got = law held h.serial node f.issued bare h.inverse
 
             same_nodes : length v'.nodes ≡ length v.nodes
-            same_nodes = sym (length-links v'.nodes) ∙ got.size ∙ length-links v.nodes
+            same_nodes = sym (length-links v'.nodes) ∙ got.grown.size ∙ length-links v.nodes
 
             path_at : (i : ℕ) → i < n → get_or (births m f n) i [] ≡ record { state = m.birth (q.to_come i); serial = f.issued + i } ∷ []
             path_at i l = get_or-map-range_with_len (born m f) 0 n i i [] l (omega arith) ∙ ap (λ (s : Supply). record { state = m.birth (s.to_come i); serial = f.issued + i } ∷ []) src
 
-            started : Represents got.node' v' (granted m f (start n) 0)
+            started : Represents got.grown.node' v' (granted m f (start n) 0)
             unfolding held
             started = record {
               sound = sound_granted m f h.sound (start n) 0 open_call;
-              serial = got.serial';
-              tree = subst (λ k. Tree (links v'.nodes) v'.head v'.free (named v'.tips v'.holds) got.serial' (f.issued + k)) en
-                  (tree_same (links v'.nodes) v'.head v'.free (λ k. held k + sum_by (is_node k) v'.tips) (named v'.tips v'.holds) got.serial' (f.issued + length v'.tips)
-                  (λ k. omega arith) got.tree);
-              inverse = got.inverse;
+              serial = got.grown.serial';
+              tree = subst (λ k. Tree (links v'.nodes) v'.head v'.free (named v'.tips v'.holds) got.grown.serial' (f.issued + k)) en
+                  (tree_same (links v'.nodes) v'.head v'.free (λ k. held k + sum_by (is_node k) v'.tips) (named v'.tips v'.holds) got.grown.serial' (f.issued + length v'.tips)
+                  (λ k. omega arith) got.grown.tree);
+              inverse = got.grown.inverse;
               number = length-map-range_with_len (born m f) 0 n ∙ sym en;
               paths_are = λ i l.
                   let l2 : i < n = omega arith in
-                  subst (λ p. Track (links v'.nodes) (states v'.nodes) got.serial' (Some (get_or v'.tips i 0)) p) (sym (path_at i l2)) (got.born i l);
+                  subst (λ p. Track (links v'.nodes) (states v'.nodes) got.grown.serial' (Some (get_or v'.tips i 0)) p) (sym (path_at i l2)) (got.born i l);
               sixteen = h.sixteen;
               places_are = λ j l.
                   let l2 : j < length v.holds = omega (arith, h.sixteen) in
-                  alike_stays (links v.nodes) (links v'.nodes) (states v.nodes) (states v'.nodes) h.serial got.serial' (get_or v.holds j None) (get_or f.places j None)
-                  (λ k p e r. got.stays (Some k) p (λ x y. let z : k ≡ x = cc in subst (λ a. 0 < sum_by (λ o. is_named o a) v.holds) z (let pe = place_named [] v.holds j k l2 e in omega (arith, pe))) r)
+                  alike_stays (links v.nodes) (links v'.nodes) (states v.nodes) (states v'.nodes) h.serial got.grown.serial' (get_or v.holds j None) (get_or f.places j None)
+                  (λ k p e r. got.grown.stays (Some k) p (λ x y. let z : k ≡ x = cc in subst (λ a. 0 < sum_by (λ o. is_named o a) v.holds) z (let pe = place_named [] v.holds j k l2 e in omega (arith, pe))) r)
                   (h.places_are j l);
               phase = refl;
               round = refl;
@@ -133,7 +133,7 @@ module _ {S : Type 0} (m : Meaning S) (n : ℕ) (v : View S) (q : Supply) where
 
           pub start_granted : Follows m (start n) (done n 0 nothing) v q v' q'
           start_granted node f h src =
-              let g = got node f h src in
+              let g = (got node f h src).grown in
               let a = in_use_represented node v f h in
               let b = in_use_represented g.node' v' (granted m f (start n) 0) (started node f h src) in
               let len = same_nodes node f h src in

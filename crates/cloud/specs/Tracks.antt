@@ -36,29 +36,25 @@ abbrev pub SomeTreeFew : List Link → Option ℕ → ℕ → List ℕ → Type 
 SomeTreeFew ls head free ns =
     ∥ ((w : ℕ → ℕ) × (serial : ℕ → ℕ) × (issued : ℕ) × Tree ls head free (λ k. w k + sum_by (is_node k) ns) serial issued × ((k : ℕ) → w k ≤ 65536)) ∥₁
 
--- the nodes of the row were issued with no parent, one after another, and their states are news
-pub record Born {S : Type 0} (ls ms : List Link) (ss ts : List S) (head : Option ℕ) (free : ℕ) (row : List ℕ) (news : ℕ → S) (w serial node : ℕ → ℕ) (issued : ℕ) : Type 0 where
+-- i nodes were issued, numbered from issued on; names says what names each node then, and what w names keeps its path
+pub record Grown {S : Type 0} (ls ms : List Link) (ss ts : List S) (head : Option ℕ) (free : ℕ) (names : ℕ → ℕ) (i : ℕ) (w serial node : ℕ → ℕ) (issued : ℕ) : Type 0 where
   pub serial' : ℕ → ℕ
   pub node' : ℕ → ℕ
   pub size : length ms ≡ length ls
-  pub tree : Tree ms head free (λ k. w k + sum_by (is_node k) row) serial' (issued + length row)
-  pub inverse : Inverse ms serial' node'
-  pub older : (s : ℕ) → s < issued → node' s ≡ node s
-  pub fresh : (s : ℕ) → issued ≤ s → s < issued + length row → (link_at ls (node' s)).count ≡ 0
-  pub grows : (k : ℕ) → 0 < (link_at ls k).count → 0 < (link_at ms k).count
-  pub stays : (o : Option ℕ) (p : PathOf S) → IsNamed w o → Track ls ss serial o p → Track ms ts serial' o p
-  pub born : (j : ℕ) → j < length row → Track ms ts serial' (Some (slice_index row j)) (record { state = news j; serial = issued + j } ∷ [])
-
--- the first i of the paths whose newest nodes were tips are longer by a node; the row has their newest nodes, and news the new states
-pub record Moved {S : Type 0} (ls ms : List Link) (ss ts : List S) (head : Option ℕ) (free : ℕ) (tips row : List ℕ) (news : ℕ → S → S) (i : ℕ) (w serial node : ℕ → ℕ) (issued : ℕ) : Type 0 where
-  pub serial' : ℕ → ℕ
-  pub node' : ℕ → ℕ
-  pub size : length ms ≡ length ls
-  pub tree : Tree ms head free (λ k. w k + sum_by (is_node k) row) serial' (issued + i)
+  pub tree : Tree ms head free names serial' (issued + i)
   pub inverse : Inverse ms serial' node'
   pub older : (s : ℕ) → s < issued → node' s ≡ node s
   pub fresh : (s : ℕ) → issued ≤ s → s < issued + i → (link_at ls (node' s)).count ≡ 0
   pub grows : (k : ℕ) → 0 < (link_at ls k).count → 0 < (link_at ms k).count
   pub stays : (o : Option ℕ) (p : PathOf S) → IsNamed w o → Track ls ss serial o p → Track ms ts serial' o p
-  pub longer : (j : ℕ) (x : Pair S) (p : PathOf S) → j < i → Track ls ss serial (Some (slice_index tips j)) (x ∷ p) → Track ms ts serial' (Some (slice_index row j)) (record { state = news j x.state; serial = issued + j } ∷ x ∷ p)
-  pub ahead : (j : ℕ) (p : PathOf S) → i ≤ j → j < length row → Track ls ss serial (Some (slice_index tips j)) p → Track ms ts serial' (Some (slice_index row j)) p
+
+-- the nodes of the row were issued with no parent, one after another, and their states are news
+pub record Born {S : Type 0} (ls ms : List Link) (ss ts : List S) (head : Option ℕ) (free : ℕ) (row : List ℕ) (news : ℕ → S) (w serial node : ℕ → ℕ) (issued : ℕ) : Type 0 where
+  pub grown : Grown ls ms ss ts head free (λ k. w k + sum_by (is_node k) row) (length row) w serial node issued
+  pub born : (j : ℕ) → j < length row → Track ms ts grown.serial' (Some (slice_index row j)) (record { state = news j; serial = issued + j } ∷ [])
+
+-- the first i of the paths whose newest nodes were tips are longer by a node; the row has their newest nodes, and news the new states
+pub record Moved {S : Type 0} (ls ms : List Link) (ss ts : List S) (head : Option ℕ) (free : ℕ) (tips row : List ℕ) (news : ℕ → S → S) (i : ℕ) (w serial node : ℕ → ℕ) (issued : ℕ) : Type 0 where
+  pub grown : Grown ls ms ss ts head free (λ k. w k + sum_by (is_node k) row) i w serial node issued
+  pub longer : (j : ℕ) (x : Pair S) (p : PathOf S) → j < i → Track ls ss serial (Some (slice_index tips j)) (x ∷ p) → Track ms ts grown.serial' (Some (slice_index row j)) (record { state = news j x.state; serial = issued + j } ∷ x ∷ p)
+  pub ahead : (j : ℕ) (p : PathOf S) → i ≤ j → j < length row → Track ls ss serial (Some (slice_index tips j)) p → Track ms ts grown.serial' (Some (slice_index row j)) p
