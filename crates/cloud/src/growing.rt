@@ -12,6 +12,7 @@ use models::state::State;
 use refusals::Refusal;
 use sources::Source;
 
+// What every call leaves alone (`same`, `count`, `rest`) is said of before and after, which no invariant of the cloud could carry.
 impl<S: State> Cloud<'_, S> {
     // Begins with n particles, each at the birth of a number of its own, drawn in particle order.
     pub fn start<M: Model<State = S>, R: Source>(

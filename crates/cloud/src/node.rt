@@ -34,6 +34,8 @@ impl<S> Node<S> {
     }
 }
 
+// That the node is one of the list stands in each contract below: it ties a number to what is lent, and no type of the number could carry it.
+
 // How many nodes, particles and holds hang on the node.
 pub(crate) fn count_of<S>(nodes: &[Node<S>], node: u16) -> u32
     requires { node < length nodes.now }

@@ -10,6 +10,7 @@ use refusals::Refusal;
 use sources::Source;
 
 // Draws a birth into each place of the row, in its order, and answers how many.
+// What a refusal leaves alone is said of before and after, which no type of the row or the source could carry.
 pub fn draw_births<M: Model, R: Source>(
     model: &M,
     source: &mut R,

@@ -16,6 +16,7 @@ fn outcome(rt: &HostRuntime, heap: Global, entry: &str) -> anyhow::Result<Option
     };
     let input = fs::read(rt, format!(in heap; "{name}.input")?)?;
     let wanted = fs::read(rt, format!(in heap; "{name}.report")?)?;
+    // one arm for each program: a table of calls would say the same in more words
     let got = match program {
         "resample" => report(heap, &input)?,
         _ => return Err(anyhow!("a line of the list names no program")),

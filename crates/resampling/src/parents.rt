@@ -53,6 +53,7 @@ impl<'a> Pass<'a> {
 }
 
 // Particles go up with the marks, so that one pass over them finds all parents.
+// The bound on the weights is asked for and not carried by a type of theirs: `total_weight` tests it once, and each function that needs it has one caller.
 fn fill(weights: &[u16], whole: u32, first: u32, row: &mut [u32])
     requires few { length weights.now ≤ 256 }
     requires room { length row.old ≡ length weights.now }
