@@ -29,8 +29,7 @@ use Rattle.cloud.specs.Representations.{View, Represents, SomeFilter}
 use Rattle.cloud.specs.Promises.{Follows}
 use Rattle.cloud.proofs.Links.{length-links}
 use Rattle.cloud.proofs.Trees.{tree_same}
-use Rattle.cloud.proofs.Naming.{place_named}
-use Rattle.cloud.proofs.Stepping.{taken_refused, taken_granted, alike_stays, particles}
+use Rattle.cloud.proofs.Stepping.{passed, failed, taken_refused, taken_granted, places_stay, particles}
 use Rattle.cloud.proofs.Seeing.{seen_free}
 use Rattle.cloud.proofs.Counting.{in_use_represented}
 use Rattle.cloud.proofs.Keeping.{free_represented}
@@ -67,34 +66,34 @@ advance_map v s = ∥∥₁_map s (λ (node, f, h). (
 module _ {S : Type 0} (m : Meaning S) (c : ℕ) (v : View S) (q : Supply) where
   pub advance_wrong_phase : (v.phase ≡ Level → ⊥) → Follows m (advance c) (refused WrongPhase) v q v q
   advance_wrong_phase no_way node f h src = taken_refused m (advance c) v q node f WrongPhase h src
-      (ap (λ t. unless t WrongPhase (unless (m.commands c) Unknown (unless (leb (length f.paths) (free f)) NoNodesLeft (unless (f.source.can (length f.paths)) SourceDry None)))) (ap is_level h.phase ∙ not_level v.phase no_way))
+      (failed _ (ap is_level h.phase ∙ not_level v.phase no_way))
 
   module _ (level_now : v.phase ≡ Level) where
     past_phase : (node : ℕ → ℕ) (f : Filter S) → Represents node v f → refusal m f (advance c) ≡ unless (m.commands c) Unknown (unless (leb (length f.paths) (free f)) NoNodesLeft (unless (f.source.can (length f.paths)) SourceDry None))
-    past_phase node f h = ap (λ t. unless t WrongPhase (unless (m.commands c) Unknown (unless (leb (length f.paths) (free f)) NoNodesLeft (unless (f.source.can (length f.paths)) SourceDry None)))) (ap is_level (h.phase ∙ level_now))
+    past_phase node f h = passed _ (ap is_level (h.phase ∙ level_now))
 
     pub advance_unknown : m.commands c ≡ false → Follows m (advance c) (refused Unknown) v q v q
     advance_unknown bad node f h src = taken_refused m (advance c) v q node f Unknown h src
-        (past_phase node f h ∙ ap (λ t. unless t Unknown (unless (leb (length f.paths) (free f)) NoNodesLeft (unless (f.source.can (length f.paths)) SourceDry None))) bad)
+        (past_phase node f h ∙ failed _ bad)
 
     module _ (known : m.commands c ≡ true) where
       past_command : (node : ℕ → ℕ) (f : Filter S) → Represents node v f → refusal m f (advance c) ≡ unless (leb (length f.paths) (free f)) NoNodesLeft (unless (f.source.can (length f.paths)) SourceDry None)
-      past_command node f h = past_phase node f h ∙ ap (λ t. unless t Unknown (unless (leb (length f.paths) (free f)) NoNodesLeft (unless (f.source.can (length f.paths)) SourceDry None))) known
+      past_command node f h = past_phase node f h ∙ passed _ known
 
       pub advance_no_nodes : v.free < length v.tips → Follows m (advance c) (refused NoNodesLeft) v q v q
       advance_no_nodes few node f h src =
           let b : leb (length f.paths) (free f) ≡ false = lt-leb (length f.paths) (free f) (omega (arith, free_represented node v f h, h.number)) in
-          taken_refused m (advance c) v q node f NoNodesLeft h src (past_command node f h ∙ ap (λ t. unless t NoNodesLeft (unless (f.source.can (length f.paths)) SourceDry None)) b)
+          taken_refused m (advance c) v q node f NoNodesLeft h src (past_command node f h ∙ failed _ b)
 
       module _ (room : length v.tips ≤ v.free) where
         past_nodes : (node : ℕ → ℕ) (f : Filter S) → Represents node v f → f.source ≡ q → refusal m f (advance c) ≡ unless (q.can (length v.tips)) SourceDry None
         past_nodes node f h src =
             let b : leb (length f.paths) (free f) ≡ true = le-leb (length f.paths) (free f) (omega (arith, free_represented node v f h, h.number)) in
-            past_command node f h ∙ ap (λ t. unless t NoNodesLeft (unless (f.source.can (length f.paths)) SourceDry None)) b
+            past_command node f h ∙ passed _ b
             ∙ ap (λ (s : Supply). unless (s.can (length f.paths)) SourceDry None) src ∙ ap (λ k. unless (q.can k) SourceDry None) h.number
 
         pub advance_dry : q.can (length v.tips) ≡ false → Follows m (advance c) (refused SourceDry) v q v q
-        advance_dry cannot node f h src = taken_refused m (advance c) v q node f SourceDry h src (past_nodes node f h src ∙ ap (λ t. unless t SourceDry None) cannot)
+        advance_dry cannot node f h src = taken_refused m (advance c) v q node f SourceDry h src (past_nodes node f h src ∙ failed _ cannot)
 
         -- an advance that is granted: the nodes, their first free one, how many are free, and the tips
         module _ (can : q.can (length v.tips) ≡ true) (nodes : List (Node S)) (head : Option ℕ) (left : ℕ) (tips : List ℕ) (q' : Supply) (en : length tips ≡ length v.tips) (ef : left + length v.tips ≡ v.free) (eq : q' ≡ after (length v.tips) q)
@@ -104,7 +103,7 @@ module _ {S : Type 0} (m : Meaning S) (c : ℕ) (v : View S) (q : Supply) where
 
           module _ (node : ℕ → ℕ) (f : Filter S) (h : Represents node v f) (src : f.source ≡ q) where
             open_call : refusal m f (advance c) ≡ None
-            open_call = past_nodes node f h src ∙ ap (λ t. unless t SourceDry None) can
+            open_call = past_nodes node f h src ∙ passed _ can
 
             held : ℕ → ℕ
             held k = sum_by (λ o. is_named o k) v.holds
@@ -141,11 +140,7 @@ module _ {S : Type 0} (m : Meaning S) (c : ℕ) (v : View S) (q : Supply) where
                   let l2 : i < length v.tips = omega arith in
                   subst (λ p. Track (links v'.nodes) (states v'.nodes) got.grown.serial' (Some (get_or v'.tips i 0)) p) (sym (path_at i l2)) (longer_track i (get_or f.paths i []) l2 (h.paths_are i l2));
               sixteen = h.sixteen;
-              places_are = λ j l.
-                  let l2 : j < length v.holds = omega (arith, h.sixteen) in
-                  alike_stays (links v.nodes) (links v'.nodes) (states v.nodes) (states v'.nodes) h.serial got.grown.serial' (get_or v.holds j None) (get_or f.places j None)
-                  (λ k p e r. got.grown.stays (Some k) p (λ x y. let z : k ≡ x = cc in subst (λ a. 0 < sum_by (λ o. is_named o a) v.holds) z (let pe = place_named [] v.holds j k l2 e in omega (arith, pe))) r)
-                  (h.places_are j l);
+              places_are = λ j l. places_stay (links v.nodes) (links nodes) (states v.nodes) (states nodes) h.serial got.grown.serial' v.holds f.places j (omega (arith, h.sixteen)) got.grown.stays (h.places_are j l);
               phase = sym level_now;
               round = ap (λ k. k + 1) h.round;
               stamp = h.stamp;

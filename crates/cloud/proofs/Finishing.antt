@@ -7,7 +7,7 @@ use Rattle.models.specs.Meanings.{Meaning}
 use Rattle.filter.specs.declared.phase.Phase.TheVariants.{Empty}
 use Rattle.filter.specs.Filters.{Filter}
 use Rattle.filter.specs.Calls.{finish}
-use Rattle.filter.specs.Refusals.{unless, is_living, refusal}
+use Rattle.filter.specs.Refusals.{is_living, refusal}
 use Rattle.filter.specs.Steps.{granted}
 use Rattle.filter.specs.Replies.{done, refused, nothing}
 use Rattle.filter.proofs.Grants.{empty_not_weighed}
@@ -20,7 +20,7 @@ use Rattle.cloud.specs.Representations.{View, Represents, SomeFilter}
 use Rattle.cloud.specs.Promises.{Follows}
 use Rattle.cloud.proofs.Trees.{tree_same}
 use Rattle.cloud.proofs.Naming.{place_named}
-use Rattle.cloud.proofs.Stepping.{taken_refused, taken_granted, stay_all, alike_stays}
+use Rattle.cloud.proofs.Stepping.{passed, failed, taken_refused, taken_granted, stay_all, alike_stays}
 use Rattle.cloud.proofs.Keeping.{living, freed_by, same_nodes, same_links, track_on}
 
 -- the cloud with no particle, once its tree is so
@@ -38,7 +38,7 @@ finish_named v s = ∥∥₁_map s (λ (node, f, h). (
 
 module _ {S : Type 0} (m : Meaning S) (q : Supply) (v : View S) where
   pub finish_wrong_phase : v.phase ≡ Empty → Follows m finish (refused WrongPhase) v q v q
-  finish_wrong_phase e node f h src = taken_refused m finish v q node f WrongPhase h src (ap (λ p. unless (is_living p) WrongPhase None) (h.phase ∙ e))
+  finish_wrong_phase e node f h src = taken_refused m finish v q node f WrongPhase h src (failed _ (ap is_living (h.phase ∙ e)))
 
   -- a finish that is granted: the nodes, their first free one, how many are free, and the tips
   module _ (nodes : List (Node S)) (head : Option ℕ) (left : ℕ) (tips : List ℕ) (freed : ℕ) (et : tips ≡ []) (ef : left ≡ v.free + freed) (kept : Keeps v.nodes nodes)
@@ -49,7 +49,7 @@ module _ {S : Type 0} (m : Meaning S) (q : Supply) (v : View S) where
 
     module _ (node : ℕ → ℕ) (f : Filter S) (h : Represents node v f) where
       open_call : refusal m f finish ≡ None
-      open_call = ap (λ p. unless (is_living p) WrongPhase None) h.phase ∙ ap (λ t. unless t WrongPhase None) (living v.phase some_way)
+      open_call = passed _ (ap is_living h.phase ∙ living v.phase some_way)
 
       new_tree : Tree (links v'.nodes) v'.head v'.free (named v'.tips v'.holds) h.serial f.issued
       new_tree = tree_same (links v'.nodes) v'.head v'.free (λ k. sum_by (λ o. is_named o k) v.holds) (named v'.tips v'.holds) h.serial f.issued

@@ -30,7 +30,7 @@ use Rattle.cloud.specs.Representations.{View, Represents, SomeFilter}
 use Rattle.cloud.specs.Promises.{Taken, Follows}
 use Rattle.cloud.proofs.Trees.{tree_same}
 use Rattle.cloud.proofs.Naming.{place_named, particle_named, few_by, is_named_le}
-use Rattle.cloud.proofs.Stepping.{taken_refused, taken_granted, stay_all, alike_stays, particles, each_weighed}
+use Rattle.cloud.proofs.Stepping.{passed, failed, taken_refused, taken_granted, stay_all, alike_stays, particles, each_weighed}
 use Rattle.cloud.proofs.Keeping.{freed_by, same_nodes, same_links, track_on}
 
 -- the cloud of the children, once its tree is so
@@ -91,24 +91,24 @@ resample_few v s = ∥∥₁_map s (λ (node, f, h). (
 module _ {S : Type 0} (m : Meaning S) (v : View S) (q : Supply) where
   pub resample_wrong_phase : (v.phase ≡ Weighed → ⊥) → Follows m resample (refused WrongPhase) v q v q
   resample_wrong_phase no_way node f h src = taken_refused m resample v q node f WrongPhase h src
-      (ap (λ t. unless t WrongPhase (unless (f.source.can 1) SourceDry (unless (ltb 0 (total f.weights)) AllZero None))) (ap is_weighed h.phase ∙ not_weighed v.phase no_way))
+      (failed _ (ap is_weighed h.phase ∙ not_weighed v.phase no_way))
 
   module _ (weighed_now : v.phase ≡ Weighed) where
     past_phase : (node : ℕ → ℕ) (f : Filter S) → Represents node v f → f.source ≡ q → refusal m f resample ≡ unless (q.can 1) SourceDry (unless (ltb 0 (total v.weights)) AllZero None)
     past_phase node f h src =
-        ap (λ t. unless t WrongPhase (unless (f.source.can 1) SourceDry (unless (ltb 0 (total f.weights)) AllZero None))) (ap is_weighed (h.phase ∙ weighed_now))
+        passed _ (ap is_weighed (h.phase ∙ weighed_now))
         ∙ ap (λ (s : Supply). unless (s.can 1) SourceDry (unless (ltb 0 (total f.weights)) AllZero None)) src
         ∙ ap (λ ws. unless (q.can 1) SourceDry (unless (ltb 0 (total ws)) AllZero None)) (h.weights weighed_now)
 
     pub resample_dry : q.can 1 ≡ false → Follows m resample (refused SourceDry) v q v q
-    resample_dry cannot node f h src = taken_refused m resample v q node f SourceDry h src (past_phase node f h src ∙ ap (λ t. unless t SourceDry (unless (ltb 0 (total v.weights)) AllZero None)) cannot)
+    resample_dry cannot node f h src = taken_refused m resample v q node f SourceDry h src (past_phase node f h src ∙ failed _ cannot)
 
     module _ (can : q.can 1 ≡ true) where
       past_source : (node : ℕ → ℕ) (f : Filter S) → Represents node v f → f.source ≡ q → refusal m f resample ≡ unless (ltb 0 (total v.weights)) AllZero None
-      past_source node f h src = past_phase node f h src ∙ ap (λ t. unless t SourceDry (unless (ltb 0 (total v.weights)) AllZero None)) can
+      past_source node f h src = past_phase node f h src ∙ passed _ can
 
       pub resample_all_zero : total v.weights ≡ 0 → Follows m resample (refused AllZero) v q v q
-      resample_all_zero z node f h src = taken_refused m resample v q node f AllZero h src (past_source node f h src ∙ ap (λ t. unless t AllZero None) (le-ltb 0 (total v.weights) (omega arith)))
+      resample_all_zero z node f h src = taken_refused m resample v q node f AllZero h src (past_source node f h src ∙ failed _ (le-ltb 0 (total v.weights) (omega arith)))
 
       -- the total is refused only where all weights are 0, as there are 1 to 256 particles
       pub resample_no_total : (e : Refusal) → total_of v.weights ≡ Err e → Follows m resample (refused e) v q v q
@@ -127,7 +127,7 @@ module _ {S : Type 0} (m : Meaning S) (v : View S) (q : Supply) where
 
         module _ (node : ℕ → ℕ) (f : Filter S) (h : Represents node v f) (src : f.source ≡ q) where
           open_call : refusal m f resample ≡ None
-          open_call = past_source node f h src ∙ ap (λ t. unless t AllZero None) (lt-ltb 0 (total v.weights) got.positive)
+          open_call = past_source node f h src ∙ passed _ (lt-ltb 0 (total v.weights) got.positive)
 
           ps_are : parents_now f ≡ ps
           ps_are = ap (λ (s : Supply). parents f.weights (offset (s.to_come 0) (total f.weights))) src ∙ ap (λ us. parents us (offset (q.to_come 0) (total us))) (h.weights weighed_now) ∙ sym got.are

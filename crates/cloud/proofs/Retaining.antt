@@ -24,7 +24,7 @@ use Rattle.cloud.specs.Promises.{Follows}
 use Rattle.cloud.proofs.Links.{length-links}
 use Rattle.cloud.proofs.Trees.{tree_same, named_used}
 use Rattle.cloud.proofs.Naming.{particle_named, place_named, named_set, few_by, is_node_le, is_named_le, is_child_le}
-use Rattle.cloud.proofs.Stepping.{taken_refused, taken_granted, stay_all, alike_stays}
+use Rattle.cloud.proofs.Stepping.{passed, failed, taken_refused, taken_granted, stay_all, alike_stays}
 use Rattle.cloud.proofs.Keeping.{living, freed_by, same_nodes, same_links, track_on}
 
 -- the cloud that holds the path of a tip in a place, once its tree is so
@@ -74,25 +74,24 @@ module _ {S : Type 0} (v : View S) (s : SomeFilter v) (i : ℕ) (li : i < length
 module _ {S : Type 0} (m : Meaning S) (q : Supply) (v : View S) (i : ℕ) where
   pub hold_wrong_phase : v.phase ≡ Empty → Follows m (hold i) (refused WrongPhase) v q v q
   hold_wrong_phase e node f h src = taken_refused m (hold i) v q node f WrongPhase h src
-      (ap (λ p. unless (is_living p) WrongPhase (unless (ltb i (length f.paths)) OutOfRange (unless (some_closed f.places) NoPlaceLeft None))) (h.phase ∙ e))
+      (failed _ (ap is_living (h.phase ∙ e)))
 
   module _ (some_way : v.phase ≡ Empty → ⊥) where
     past_phase : (node : ℕ → ℕ) (f : Filter S) → Represents node v f → refusal m f (hold i) ≡ unless (ltb i (length f.paths)) OutOfRange (unless (some_closed f.places) NoPlaceLeft None)
     past_phase node f h =
-        ap (λ p. unless (is_living p) WrongPhase (unless (ltb i (length f.paths)) OutOfRange (unless (some_closed f.places) NoPlaceLeft None))) h.phase
-        ∙ ap (λ t. unless t WrongPhase (unless (ltb i (length f.paths)) OutOfRange (unless (some_closed f.places) NoPlaceLeft None))) (living v.phase some_way)
+        passed _ (ap is_living h.phase ∙ living v.phase some_way)
 
     pub hold_out_of_range : length v.tips ≤ i → Follows m (hold i) (refused OutOfRange) v q v q
     hold_out_of_range l node f h src = taken_refused m (hold i) v q node f OutOfRange h src
-        (past_phase node f h ∙ ap (λ t. unless t OutOfRange (unless (some_closed f.places) NoPlaceLeft None)) (le-ltb i (length f.paths) (omega (arith, h.number))))
+        (past_phase node f h ∙ failed _ (le-ltb i (length f.paths) (omega (arith, h.number))))
 
     module _ (li : i < length v.tips) where
       past_range : (node : ℕ → ℕ) (f : Filter S) → Represents node v f → refusal m f (hold i) ≡ unless (some_closed f.places) NoPlaceLeft None
-      past_range node f h = past_phase node f h ∙ ap (λ t. unless t OutOfRange (unless (some_closed f.places) NoPlaceLeft None)) (lt-ltb i (length f.paths) (omega (arith, h.number)))
+      past_range node f h = past_phase node f h ∙ passed _ (lt-ltb i (length f.paths) (omega (arith, h.number)))
 
       pub hold_no_place : ((k : ℕ) → k < 16 → get_or v.holds k None ≡ None → ⊥) → Follows m (hold i) (refused NoPlaceLeft) v q v q
       hold_no_place full node f h src = taken_refused m (hold i) v q node f NoPlaceLeft h src
-          (past_range node f h ∙ ap (λ t. unless t NoPlaceLeft None)
+          (past_range node f h ∙ failed _
           (no_closed f.places (λ k l e.
           let l2 : k < 16 = omega (arith, h.sound.sixteen_places) in
           full k l2 (alike_closed (links v.nodes) (states v.nodes) h.serial (get_or v.holds k None) (get_or f.places k None) (h.places_are k l2) e))))
@@ -115,7 +114,7 @@ module _ {S : Type 0} (m : Meaning S) (q : Supply) (v : View S) (i : ℕ) where
           place_closed = closed_alike (links v.nodes) (states v.nodes) h.serial (get_or v.holds p None) (get_or f.places p None) (h.places_are p lp) closed
 
           open_call : refusal m f (hold i) ≡ None
-          open_call = past_range node f h ∙ ap (λ t. unless t NoPlaceLeft None) (one_closed f.places p inside_places place_closed)
+          open_call = past_range node f h ∙ passed _ (one_closed f.places p inside_places place_closed)
 
           more : (k : ℕ) → named v'.tips v'.holds k ≡ named v.tips v.holds k + is_node k tip
           more k =

@@ -9,7 +9,7 @@ use Rattle.sources.specs.Supplies.{Supply}
 use Rattle.models.specs.Meanings.{Meaning}
 use Rattle.filter.specs.Filters.{PathOf, Filter}
 use Rattle.filter.specs.Calls.{give_back}
-use Rattle.filter.specs.Refusals.{unless, refusal}
+use Rattle.filter.specs.Refusals.{refusal}
 use Rattle.filter.specs.Steps.{granted}
 use Rattle.filter.specs.Replies.{done, refused, nothing}
 use Rattle.filter.proofs.Sounds.{sound_granted}
@@ -21,7 +21,7 @@ use Rattle.cloud.specs.Representations.{View, Represents, Alike, SomeFilter}
 use Rattle.cloud.specs.Promises.{Follows}
 use Rattle.cloud.proofs.Trees.{tree_same}
 use Rattle.cloud.proofs.Naming.{particle_named, place_named, named_set}
-use Rattle.cloud.proofs.Stepping.{taken_refused, taken_granted, stay_all, alike_stays}
+use Rattle.cloud.proofs.Stepping.{passed, failed, taken_refused, taken_granted, stay_all, alike_stays}
 use Rattle.cloud.proofs.Keeping.{freed_by, same_nodes, same_links, track_on}
 use Rattle.cloud.proofs.Retaining.{closed_alike}
 
@@ -44,7 +44,7 @@ returned_path v j n l e node f h =
 module _ {S : Type 0} (m : Meaning S) (q : Supply) (v : View S) (stamp p : ℕ) where
   pub return_other_stamp : stamp ≢ v.stamp → Follows m (give_back stamp p) (refused NotHeld) v q v q
   return_other_stamp ne node f h src = taken_refused m (give_back stamp p) v q node f NotHeld h src
-      (ap (λ t. unless t NotHeld None) (and_left (eqb stamp f.stamp) (is_some (get_or f.places p None)) (ne_eqb stamp f.stamp (λ e. ne (e ∙ h.stamp)))))
+      (failed _ (and_left (eqb stamp f.stamp) (is_some (get_or f.places p None)) (ne_eqb stamp f.stamp (λ e. ne (e ∙ h.stamp)))))
 
   pub return_closed : get_or v.holds p None ≡ None → Follows m (give_back stamp p) (refused NotHeld) v q v q
   return_closed e node f h src =
@@ -53,7 +53,7 @@ module _ {S : Type 0} (m : Meaning S) (q : Supply) (v : View S) (stamp p : ℕ) 
       (λ l. get_or_past f.places p None (omega (arith, h.sound.sixteen_places)))
       (cases_lt p 16) in
       taken_refused m (give_back stamp p) v q node f NotHeld h src
-      (ap (λ t. unless t NotHeld None) (and_right (eqb stamp f.stamp) (is_some (get_or f.places p None)) (ap is_some closed)))
+      (failed _ (and_right (eqb stamp f.stamp) (is_some (get_or f.places p None)) (ap is_some closed)))
 
 -- an open place is one of the sixteen
 pub open_inside : (holds : List (Option ℕ)) (p nd : ℕ) → length holds ≡ 16 → get_or holds p None ≡ Some nd → p < 16
@@ -85,7 +85,7 @@ module _ {S : Type 0} (v : View S) (p : ℕ) (lp : p < 16) (nd : ℕ) (at_p : ge
       open_call : refusal m f (give_back stamp p) ≡ None
       open_call =
           let r = open_path (links v.nodes) (states v.nodes) h.serial (get_or v.holds p None) (get_or f.places p None) nd (h.places_are p lp) at_p in
-          ap (λ t. unless t NotHeld None) (and_from (eqb stamp f.stamp) (is_some (get_or f.places p None)) (eq-eqb stamp f.stamp (e-stamp ∙ sym h.stamp)) (ap is_some r.1))
+          passed _ (and_from (eqb stamp f.stamp) (is_some (get_or f.places p None)) (eq-eqb stamp f.stamp (e-stamp ∙ sym h.stamp)) (ap is_some r.1))
 
       new_tree : Tree (links v'.nodes) v'.head v'.free (named v'.tips v'.holds) h.serial f.issued
       new_tree = (law (named v.tips (set v.holds p None)) h.serial f.issued (less_one node f h))

@@ -22,7 +22,7 @@ use Rattle.cloud.specs.Promises.{Follows}
 use Rattle.cloud.proofs.Links.{length-links}
 use Rattle.cloud.proofs.Trees.{named_used}
 use Rattle.cloud.proofs.Naming.{particle_named}
-use Rattle.cloud.proofs.Stepping.{taken_refused, taken_granted, stay_all}
+use Rattle.cloud.proofs.Stepping.{passed, failed, taken_refused, taken_granted, stay_all}
 use Rattle.cloud.proofs.Keeping.{freed_by}
 use Rattle.cloud.proofs.Advancing.{not_level}
 
@@ -48,14 +48,14 @@ tips_inside v s i l = ∥∥₁_elim s le_prop (λ (node, f, h).
 module _ {S : Type 0} (m : Meaning S) (z : ℕ) (q : Supply) (v : View S) where
   pub weigh_wrong_phase : (v.phase ≡ Level → ⊥) → Follows m (weigh z) (refused WrongPhase) v q v q
   weigh_wrong_phase no_way node f h src = taken_refused m (weigh z) v q node f WrongPhase h src
-      (ap (λ t. unless t WrongPhase (unless (m.readings z) Unknown None)) (ap is_level h.phase ∙ not_level v.phase no_way))
+      (failed _ (ap is_level h.phase ∙ not_level v.phase no_way))
 
   module _ (level_now : v.phase ≡ Level) where
     past_phase : (node : ℕ → ℕ) (f : Filter S) → Represents node v f → refusal m f (weigh z) ≡ unless (m.readings z) Unknown None
-    past_phase node f h = ap (λ t. unless t WrongPhase (unless (m.readings z) Unknown None)) (ap is_level (h.phase ∙ level_now))
+    past_phase node f h = passed _ (ap is_level (h.phase ∙ level_now))
 
     pub weigh_unknown : m.readings z ≡ false → Follows m (weigh z) (refused Unknown) v q v q
-    weigh_unknown bad node f h src = taken_refused m (weigh z) v q node f Unknown h src (past_phase node f h ∙ ap (λ t. unless t Unknown None) bad)
+    weigh_unknown bad node f h src = taken_refused m (weigh z) v q node f Unknown h src (past_phase node f h ∙ failed _ bad)
 
     -- weighing that is granted
     module _ (known : m.readings z ≡ true) (weights : List ℕ) (sum : ℕ) (number : length weights ≡ length v.tips)
@@ -65,7 +65,7 @@ module _ {S : Type 0} (m : Meaning S) (z : ℕ) (q : Supply) (v : View S) where
 
       module _ (node : ℕ → ℕ) (f : Filter S) (h : Represents node v f) where
         open_call : refusal m f (weigh z) ≡ None
-        open_call = past_phase node f h ∙ ap (λ t. unless t Unknown None) known
+        open_call = past_phase node f h ∙ passed _ known
 
         weight_of : (i : ℕ) (p : PathOf S) → i < length v.tips → Track (links v.nodes) (states v.nodes) h.serial (Some (get_or v.tips i 0)) p → weight m z p ≡ get_or weights i 0
         weight_of i [] l r = absurd (let y : ◌≡◌ {A = ℕ} 0 1 = cc in omega arith)

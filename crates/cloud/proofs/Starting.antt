@@ -26,8 +26,7 @@ use Rattle.cloud.specs.Representations.{View, Represents, SomeFilter}
 use Rattle.cloud.specs.Promises.{Follows}
 use Rattle.cloud.proofs.Links.{length-links}
 use Rattle.cloud.proofs.Trees.{tree_same}
-use Rattle.cloud.proofs.Naming.{place_named}
-use Rattle.cloud.proofs.Stepping.{taken_refused, taken_granted, alike_stays, nobody}
+use Rattle.cloud.proofs.Stepping.{passed, failed, taken_refused, taken_granted, places_stay, nobody}
 use Rattle.cloud.proofs.Seeing.{seen_free}
 use Rattle.cloud.proofs.Counting.{in_use_represented}
 use Rattle.cloud.proofs.Keeping.{free_represented}
@@ -48,35 +47,35 @@ start_map v s = ∥∥₁_map s (λ (node, f, h). (named v.tips v.holds, h.seria
 module _ {S : Type 0} (m : Meaning S) (n : ℕ) (v : View S) (q : Supply) where
   pub start_wrong_phase : (v.phase ≡ Empty → ⊥) → Follows m (start n) (refused WrongPhase) v q v q
   start_wrong_phase no_way node f h src = taken_refused m (start n) v q node f WrongPhase h src
-      (ap (λ t. unless t WrongPhase (unless (in_range n) OutOfRange (unless (leb n (free f)) NoNodesLeft (unless (f.source.can n) SourceDry None)))) (ap is_empty h.phase ∙ not_empty v.phase no_way))
+      (failed _ (ap is_empty h.phase ∙ not_empty v.phase no_way))
 
   module _ (empty_now : v.phase ≡ Empty) where
     past_phase : (node : ℕ → ℕ) (f : Filter S) → Represents node v f → refusal m f (start n) ≡ unless (in_range n) OutOfRange (unless (leb n (free f)) NoNodesLeft (unless (f.source.can n) SourceDry None))
-    past_phase node f h = ap (λ t. unless t WrongPhase (unless (in_range n) OutOfRange (unless (leb n (free f)) NoNodesLeft (unless (f.source.can n) SourceDry None)))) (ap is_empty (h.phase ∙ empty_now))
+    past_phase node f h = passed _ (ap is_empty (h.phase ∙ empty_now))
 
     pub start_out_of_range : (n < 1) ⊎ ((1 ≤ n) × (256 < n)) → Follows m (start n) (refused OutOfRange) v q v q
     start_out_of_range bad node f h src =
         let b : in_range n ≡ false = ⊎_elim (λ l. and_left (leb 1 n) (leb n 256) (lt-leb 1 n l)) (λ l. and_right (leb 1 n) (leb n 256) (lt-leb n 256 l.1)) bad in
-        taken_refused m (start n) v q node f OutOfRange h src (past_phase node f h ∙ ap (λ t. unless t OutOfRange (unless (leb n (free f)) NoNodesLeft (unless (f.source.can n) SourceDry None))) b)
+        taken_refused m (start n) v q node f OutOfRange h src (past_phase node f h ∙ failed _ b)
 
     module _ (low : 1 ≤ n) (high : n ≤ 256) where
       past_range : (node : ℕ → ℕ) (f : Filter S) → Represents node v f → refusal m f (start n) ≡ unless (leb n (free f)) NoNodesLeft (unless (f.source.can n) SourceDry None)
       past_range node f h =
-          past_phase node f h ∙ ap (λ t. unless t OutOfRange (unless (leb n (free f)) NoNodesLeft (unless (f.source.can n) SourceDry None))) (and_from (leb 1 n) (leb n 256) (le-leb 1 n low) (le-leb n 256 high))
+          past_phase node f h ∙ passed _ (and_from (leb 1 n) (leb n 256) (le-leb 1 n low) (le-leb n 256 high))
 
       pub start_no_nodes : v.free < n → Follows m (start n) (refused NoNodesLeft) v q v q
       start_no_nodes few node f h src =
           let b : leb n (free f) ≡ false = lt-leb n (free f) (omega (arith, free_represented node v f h)) in
-          taken_refused m (start n) v q node f NoNodesLeft h src (past_range node f h ∙ ap (λ t. unless t NoNodesLeft (unless (f.source.can n) SourceDry None)) b)
+          taken_refused m (start n) v q node f NoNodesLeft h src (past_range node f h ∙ failed _ b)
 
       module _ (room : n ≤ v.free) where
         past_nodes : (node : ℕ → ℕ) (f : Filter S) → Represents node v f → f.source ≡ q → refusal m f (start n) ≡ unless (q.can n) SourceDry None
         past_nodes node f h src =
             let b : leb n (free f) ≡ true = le-leb n (free f) (omega (arith, free_represented node v f h)) in
-            past_range node f h ∙ ap (λ t. unless t NoNodesLeft (unless (f.source.can n) SourceDry None)) b ∙ ap (λ (s : Supply). unless (s.can n) SourceDry None) src
+            past_range node f h ∙ passed _ b ∙ ap (λ (s : Supply). unless (s.can n) SourceDry None) src
 
         pub start_dry : q.can n ≡ false → Follows m (start n) (refused SourceDry) v q v q
-        start_dry cannot node f h src = taken_refused m (start n) v q node f SourceDry h src (past_nodes node f h src ∙ ap (λ t. unless t SourceDry None) cannot)
+        start_dry cannot node f h src = taken_refused m (start n) v q node f SourceDry h src (past_nodes node f h src ∙ failed _ cannot)
 
         -- a start that is granted: the nodes, their first free one, how many are free, and the tips
         module _ (can : q.can n ≡ true) (nodes : List (Node S)) (head : Option ℕ) (left : ℕ) (tips : List ℕ) (q' : Supply) (en : length tips ≡ n) (ef : left + n ≡ v.free) (eq : q' ≡ after n q)
@@ -86,7 +85,7 @@ module _ {S : Type 0} (m : Meaning S) (n : ℕ) (v : View S) (q : Supply) where
 
           module _ (node : ℕ → ℕ) (f : Filter S) (h : Represents node v f) (src : f.source ≡ q) where
             open_call : refusal m f (start n) ≡ None
-            open_call = past_nodes node f h src ∙ ap (λ t. unless t SourceDry None) can
+            open_call = past_nodes node f h src ∙ passed _ can
 
             held : ℕ → ℕ
             held k = sum_by (λ o. is_named o k) v.holds
@@ -119,11 +118,7 @@ module _ {S : Type 0} (m : Meaning S) (n : ℕ) (v : View S) (q : Supply) where
                   let l2 : i < n = omega arith in
                   subst (λ p. Track (links v'.nodes) (states v'.nodes) got.grown.serial' (Some (get_or v'.tips i 0)) p) (sym (path_at i l2)) (got.born i l);
               sixteen = h.sixteen;
-              places_are = λ j l.
-                  let l2 : j < length v.holds = omega (arith, h.sixteen) in
-                  alike_stays (links v.nodes) (links v'.nodes) (states v.nodes) (states v'.nodes) h.serial got.grown.serial' (get_or v.holds j None) (get_or f.places j None)
-                  (λ k p e r. got.grown.stays (Some k) p (λ x y. let z : k ≡ x = cc in subst (λ a. 0 < sum_by (λ o. is_named o a) v.holds) z (let pe = place_named [] v.holds j k l2 e in omega (arith, pe))) r)
-                  (h.places_are j l);
+              places_are = λ j l. places_stay (links v.nodes) (links nodes) (states v.nodes) (states nodes) h.serial got.grown.serial' v.holds f.places j (omega (arith, h.sixteen)) got.grown.stays (h.places_are j l);
               phase = refl;
               round = refl;
               stamp = h.stamp;

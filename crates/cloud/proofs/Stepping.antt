@@ -1,5 +1,5 @@
 -- What every call shares: refused and granted steps, and that some filter is represented afterwards.
-use Rattle.std.proofs.Common.{◌≡◌, ℕ, ◌+◌, ◌<◌, ◌≤◌, true, leb, List, [], ◌∷◌, length, get_or, Some, None, Option, sym, refl, ap, ◌∙◌, subst, arith}
+use Rattle.std.proofs.Common.{◌≡◌, ℕ, ◌+◌, ◌<◌, ◌≤◌, Bool, true, false, leb, List, [], ◌∷◌, length, get_or, Some, None, sum_by, Option, sym, refl, ap, ◌∙◌, subst, arith}
 use mathlib.Core.Logic.{∥∥₁_map, ∥∥₁_elim, ∥∥₁_prop}
 use native.Mathlib.Bridge.{le_prop}
 use Rattle.std.proofs.ByRecursion.{All-get_or}
@@ -13,7 +13,7 @@ use Rattle.filter.specs.declared.phase.Phase.TheVariants.{Empty, Weighed}
 use Rattle.filter.specs.Filters.{PathOf, Filter}
 use Rattle.filter.specs.Uses.{in_use}
 use Rattle.filter.specs.Calls.{Call}
-use Rattle.filter.specs.Refusals.{refusal}
+use Rattle.filter.specs.Refusals.{unless, refusal}
 use Rattle.filter.specs.Steps.{granted, step}
 use Rattle.filter.specs.Replies.{Reply, refused, done, told_place, Answer, WasClosed, issued_by, answer, freed, place_in}
 use Rattle.filter.specs.Sound.{Sound}
@@ -21,9 +21,18 @@ use Rattle.filter.proofs.Refusals.{step_by, reply_by}
 use Rattle.filter.proofs.States.{step_states}
 use Rattle.cloud.specs.declared.cloud.Cloud.{Cloud}
 use Rattle.cloud.specs.Links.{Link}
-use Rattle.cloud.specs.Tracks.{Track}
+use Rattle.cloud.specs.Trees.{is_named}
+use Rattle.cloud.specs.Tracks.{Track, IsNamed}
 use Rattle.cloud.specs.Representations.{View, Represents, Alike, SomeFilter, SomeFilterOf}
+use Rattle.cloud.proofs.Naming.{place_named}
 use Rattle.cloud.specs.Promises.{Stay, Taken, Follows, Steps}
+
+-- a test of a call passed, and failed
+pub passed : {t : Bool} (e : Refusal) {r : Option Refusal} → t ≡ true → unless t e r ≡ r
+passed e {r} h = ap (λ t. unless t e r) h
+
+pub failed : {t : Bool} {e : Refusal} (r : Option Refusal) → t ≡ false → unless t e r ≡ Some e
+failed {e = e} r h = ap (λ t. unless t e r) h
 
 -- the filter with another source
 abbrev pub fed : {S : Type 0} → Filter S → Supply → Filter S
@@ -176,6 +185,13 @@ alike_stays ls ms ss ts serial serial' None None k x = x
 alike_stays ls ms ss ts serial serial' None (Some p) k x = x
 alike_stays ls ms ss ts serial serial' (Some n) None k x = x
 alike_stays ls ms ss ts serial serial' (Some n) (Some p) k x = k n p refl x
+
+-- the places stay alike, where what open ones name keeps its paths
+pub places_stay : {S : Type 0} (ls ms : List Link) (ss ts : List S) (serial serial' : ℕ → ℕ) (holds : List (Option ℕ)) (places : List (Option (PathOf S))) (j : ℕ) → j < length holds → ((o : Option ℕ) (p : PathOf S) → IsNamed (λ k. sum_by (λ o. is_named o k) holds) o → Track ls ss serial o p → Track ms ts serial' o p)
+    → Alike ls ss serial (get_or holds j None) (get_or places j None) → Alike ms ts serial' (get_or holds j None) (get_or places j None)
+places_stay ls ms ss ts serial serial' holds places j l stays =
+    alike_stays ls ms ss ts serial serial' (get_or holds j None) (get_or places j None)
+    (λ k p e. stays (Some k) p (λ x y. let z : k ≡ x = cc in subst (λ a. 0 < sum_by (λ o. is_named o a) holds) z (let n = place_named [] holds j k l e in omega (arith, n))))
 
 -- a cloud put together again from its fields is the cloud
 pub same_cloud : {S : Type 0} (c : Cloud S) (r : SomeFilterOf c.forest.nodes.now c.forest.head c.forest.free c.tips.items c.weights.items c.holds c.phase c.round c.stamp)
