@@ -35,7 +35,7 @@ impl<'a> Pass<'a> {
         }
     }
 
-    // Goes on to the particle that has the mark, which is not one before.
+    // Goes on to the particle that has the mark, and answers it; the marks come in rising order.
     fn owner_of(&mut self, mark: u64) -> u32
         requires from { length self.old.weights.now * before self.old.weights.now self.old.particle ≤ mark }
         requires upto { mark < length self.old.weights.now * total self.old.weights.now }
