@@ -11,6 +11,7 @@ use logs::run::write_report;
 use std::fmt;
 use std::io::{Stdout, Write};
 
+// The standard output as a `fmt::Write`, which a formatter asks for.
 #[derive(Drop)]
 struct Out {
     out: Stdout,

@@ -29,6 +29,7 @@ pub enum RunFault {
     Call(Refusal),
 }
 
+// Written out: a derived `From` has no contract, and clauses name the fault.
 impl From<FieldFault> for LineFault {
     ghost from_gives = { λ f r. r ≡ Field f };
 

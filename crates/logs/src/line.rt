@@ -45,7 +45,8 @@ pub enum Line {
     Finish,
 }
 
-// The fields after a line's letter, as many as a line can have. A vector of them would ask for memory.
+// The fields after a line's letter, as many as a line can have.
+// A vector of them would ask for memory, and an Option for each would have no name for too many.
 #[derive(Clone, Copy)]
 pub enum Arguments<T> {
     Zero,

@@ -10,6 +10,7 @@ use crate::reply::Reply;
 use refusals::Refusal;
 
 // A machine obeys one line after another. A line that prints nothing has no reply.
+// Codes go into a row that the caller lends, since a machine takes no heap, and the reply counts them.
 pub trait Machine {
     // the states of what the machine means
     ghost State: { Type 0 };

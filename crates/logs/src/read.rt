@@ -11,10 +11,10 @@ use fields::number::read_field;
 
 pub const LONGEST_LINE: usize = 100;
 
-// The places of the numbers in a line, whose letter is field 1.
-const FIRST: usize = 2;
+// The fields in which a line has its numbers; field 1 is the letter.
+const FIRST_NUMBER: usize = 2;
 
-const SECOND: usize = 3;
+const SECOND_NUMBER: usize = 3;
 
 // The limits of the numbers in a line.
 const ROW_LIMIT: u32 = 31;
@@ -85,35 +85,35 @@ fn line_by(letter: Letter, arguments: Arguments<&[u8]>) -> Result<Line, LineFaul
 {
     let line = match (letter, arguments) {
         (Letter::Map, Arguments::Two(row, bits)) => Line::Map {
-            row: read_field(row, FIRST, ROW_LIMIT)? as u8,
-            bits: read_field(bits, SECOND, BITS_LIMIT)?,
+            row: read_field(row, FIRST_NUMBER, ROW_LIMIT)? as u8,
+            bits: read_field(bits, SECOND_NUMBER, BITS_LIMIT)?,
         },
         (Letter::Seed, Arguments::One(value)) => Line::Seed {
-            value: read_field(value, FIRST, SEED_LIMIT)?,
+            value: read_field(value, FIRST_NUMBER, SEED_LIMIT)?,
         },
         (Letter::Record, Arguments::One(value)) => Line::Record {
-            value: read_field(value, FIRST, RECORD_LIMIT)?,
+            value: read_field(value, FIRST_NUMBER, RECORD_LIMIT)?,
         },
         (Letter::Start, Arguments::One(count)) => Line::Start {
-            count: read_field(count, FIRST, COUNT_LIMIT)? as u16,
+            count: read_field(count, FIRST_NUMBER, COUNT_LIMIT)? as u16,
         },
         (Letter::Advance, Arguments::One(command)) => Line::Advance {
-            command: read_field(command, FIRST, COMMAND_LIMIT)? as u8,
+            command: read_field(command, FIRST_NUMBER, COMMAND_LIMIT)? as u8,
         },
         (Letter::Weigh, Arguments::One(reading)) => Line::Weigh {
-            reading: read_field(reading, FIRST, READING_LIMIT)? as u8,
+            reading: read_field(reading, FIRST_NUMBER, READING_LIMIT)? as u8,
         },
         (Letter::Resample, Arguments::Zero) => Line::Resample,
         (Letter::Share, Arguments::One(code)) => Line::Share {
             lag: None,
-            code: read_field(code, FIRST, CODE_LIMIT)? as u16,
+            code: read_field(code, FIRST_NUMBER, CODE_LIMIT)? as u16,
         },
         (Letter::Share, Arguments::Two(lag, code)) => Line::Share {
-            lag: Some(read_field(lag, FIRST, LAG_LIMIT)? as u16),
-            code: read_field(code, SECOND, CODE_LIMIT)? as u16,
+            lag: Some(read_field(lag, FIRST_NUMBER, LAG_LIMIT)? as u16),
+            code: read_field(code, SECOND_NUMBER, CODE_LIMIT)? as u16,
         },
         (Letter::Path, Arguments::One(particle)) => Line::Path {
-            particle: read_field(particle, FIRST, PARTICLE_LIMIT)? as u16,
+            particle: read_field(particle, FIRST_NUMBER, PARTICLE_LIMIT)? as u16,
         },
         (Letter::Finish, Arguments::Zero) => Line::Finish,
         _ => return Err(LineFault::FieldCount),

@@ -18,6 +18,7 @@ pub(crate) enum Command {
     TurnLeft,
 }
 
+// The numbers stand beside the names, as in the lift: an array and a look-up in it would leave them to be counted.
 impl TryFrom<u8> for Command {
     type Error = Refusal;
 

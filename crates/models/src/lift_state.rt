@@ -16,7 +16,7 @@ pub enum Mode {
 
 impl Mode {
     // Each mode at the place of its number.
-    pub(crate) const ALL: [Mode; 4] = [Mode::Down, Mode::Rising, Mode::Up, Mode::Lowering];
+    pub const ALL: [Mode; 4] = [Mode::Down, Mode::Rising, Mode::Up, Mode::Lowering];
 }
 
 // A mode, and how many moves it has lasted, up to 99.

@@ -16,12 +16,7 @@ pub enum Heading {
 
 impl Heading {
     // Each heading at the place of its number.
-    pub(crate) const ALL: [Heading; 4] = [
-        Heading::North,
-        Heading::East,
-        Heading::South,
-        Heading::West,
-    ];
+    pub const ALL: [Heading; 4] = [Heading::North, Heading::East, Heading::South, Heading::West];
 
     pub(crate) fn turned_right(self) -> Heading
         ensures { result ≡ right self }

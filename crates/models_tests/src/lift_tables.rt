@@ -11,8 +11,6 @@ const ARRIVES: u32 = 3221225471;
 
 const GOES_ON: u32 = 3221225472;
 
-const MODES: [Mode; 4] = [Mode::Down, Mode::Rising, Mode::Up, Mode::Lowering];
-
 fn print_moves_of(rt: &impl Print, mode: Mode, command: u8) -> io::Result<()> {
     print!(rt; "moves {} {command}:", mode as u8)?;
     for counter in [0, 1, 2, 98, 99, 100] {
@@ -25,7 +23,7 @@ fn print_moves_of(rt: &impl Print, mode: Mode, command: u8) -> io::Result<()> {
 }
 
 fn print_moves(rt: &impl Print) -> io::Result<()> {
-    for mode in MODES {
+    for mode in Mode::ALL {
         for command in 0..4 {
             print_moves_of(rt, mode, command)?;
         }
@@ -45,7 +43,7 @@ fn print_scores_of(rt: &impl Print, mode: Mode) -> io::Result<()> {
 }
 
 fn print_scores(rt: &impl Print) -> io::Result<()> {
-    for mode in MODES {
+    for mode in Mode::ALL {
         print_scores_of(rt, mode)?;
     }
     Ok(())

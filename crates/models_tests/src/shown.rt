@@ -4,7 +4,7 @@ use models::pose::{Heading, Pose};
 use refusals::Refusal;
 use std::fmt;
 
-// What the tables can show.
+// What the tables can show. A trait of its own, as the `Display` of an Option or of a type of another crate cannot be written here.
 pub(crate) trait Show {
     fn show<W: fmt::Write>(&self, f: &mut fmt::Formatter<W>) -> fmt::Result;
 }
@@ -45,7 +45,7 @@ impl Show for u32 {
 
 impl Show for u16 {
     fn show<W: fmt::Write>(&self, f: &mut fmt::Formatter<W>) -> fmt::Result {
-        u32::from(*self).show(f)
+        write!(f, "{self}")
     }
 }
 
