@@ -11,13 +11,13 @@ use Rattle.draws.specs.Rows.{all_states}
 abbrev pub in_range : ℕ → Bool
 in_range n = nat_le 1 n && nat_le n 256
 
--- n where so many numbers can be drawn
-abbrev pub supplied : Supply → ℕ → Result ℕ Refusal
-supplied s n = cond (s.can n) (Ok n) (Err SourceDry)
+-- granted where n numbers can be drawn
+abbrev pub supplied : Supply → ℕ → Result Unit Refusal
+supplied s n = cond (s.can n) (Ok tt) (Err SourceDry)
 
 -- the reply to a wish for n births
 abbrev pub births_reply : Supply → ℕ → Result ℕ Refusal
-births_reply s n = cond (in_range n) (supplied s n) (Err OutOfRange)
+births_reply s n = cond (in_range n) (cond (s.can n) (Ok n) (Err SourceDry)) (Err OutOfRange)
 
 -- the row can be moved: the model knows the command, and every value is a state
 abbrev pub movable : {S : Type 0} → Kind S → Meaning S → ℕ → List S → Bool
@@ -27,7 +27,7 @@ movable k m c xs = m.commands c && all_states k xs
 abbrev pub moves_reply : {S : Type 0} → Kind S → Meaning S → ℕ → Supply → List S → Result ℕ Refusal
 moves_reply k m c s xs =
     cond (in_range (length xs))
-    (cond (movable k m c xs) (supplied s (length xs)) (Err Unknown))
+    (cond (movable k m c xs) (cond (s.can (length xs)) (Ok (length xs)) (Err SourceDry)) (Err Unknown))
     (Err OutOfRange)
 
 -- the row after the reply: the new one, or what it was

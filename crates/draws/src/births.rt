@@ -3,7 +3,7 @@ ghost use Rattle.std.specs.Prelude.{◌≡◌, true, false, length, is_ok, OnOk}
 ghost use Rattle.draws.specs.Rows.{births, all_states};
 ghost use Rattle.draws.specs.Replies.{births_reply, row_after, supply_after};
 
-use crate::range::{in_range, numbers_for};
+use crate::range::{ensure_supplied, in_range};
 use crate::steps::step_all;
 use models::model::Model;
 use refusals::Refusal;
@@ -25,7 +25,7 @@ pub fn draw_births<M: Model, R: Source>(
     if !in_range(row.len()) {
         return Err(Refusal::OutOfRange);
     }
-    let n = numbers_for(source, row.len())?;
-    step_all(source, row, |_, number| Ok(model.birth(number)))?;
-    Ok(n)
+    ensure_supplied(source, row.len())?;
+    step_all(source, row, |_, number| Ok(model.birth(number)));
+    Ok(row.len())
 }

@@ -3,7 +3,7 @@ ghost use Rattle.std.specs.Prelude.{◌≡◌, true, false, length, is_ok, OnOk}
 ghost use Rattle.draws.specs.Rows.{moves, all_states};
 ghost use Rattle.draws.specs.Replies.{moves_reply, row_after, supply_after};
 
-use crate::range::{in_range, numbers_for};
+use crate::range::{ensure_supplied, in_range};
 use crate::steps::step_all;
 use models::model::Model;
 use models::state::State;
@@ -35,11 +35,11 @@ pub fn draw_moves<M: Model, R: Source>(
     if !model.knows_command(command) || !are_states(row) {
         return Err(Refusal::Unknown);
     }
-    let n = numbers_for(source, row.len())?;
+    ensure_supplied(source, row.len())?;
     step_all(
         source,
         row,
         |state, number| model.advance(state, command, number),
-    )?;
-    Ok(n)
+    );
+    Ok(row.len())
 }

@@ -14,13 +14,13 @@ pub(crate) fn in_range(places: usize) -> bool
     (1..=MOST_PLACES).contains(&places)
 }
 
-// As many numbers as places, if the source can give them.
-pub(crate) fn numbers_for<R: Source>(source: &R, places: usize) -> Result<usize, Refusal>
+// The source can give as many numbers as there are places.
+pub(crate) fn ensure_supplied<R: Source>(source: &R, places: usize) -> Result<(), Refusal>
     requires { in_range places ≡ true }
     ensures { result ≡ supplied (R.supply source.now) places }
 {
-    source
-        .can_draw(places as u32)
-        .then_some(places)
-        .ok_or(Refusal::SourceDry)
+    if !source.can_draw(places as u32) {
+        return Err(Refusal::SourceDry);
+    }
+    Ok(())
 }
