@@ -27,12 +27,13 @@ fn tally(parents: &[u32], counts: &mut [u32])
 }
 
 // Writes how many of the parents each particle is into the front of the row, and answers how many particles there are.
+// The row is lent, since a resampling takes no heap; so the answer is a count.
 pub fn write_children(parents: &[u32], row: &mut [u32]) -> Result<usize, Refusal>
     ensures reply { result ≡ children_reply parents.now (length row.old) }
     ensures row { row.new ≡ row_after result (children_of_each parents.now) row.old }
 {
     let n = parents.len();
-    if n == 0 || n > MOST_PARTICLES || !are_below(parents, n) {
+    if !(1..=MOST_PARTICLES).contains(&n) || !are_below(parents, n) {
         return Err(Refusal::OutOfRange);
     }
     if row.len() < n {

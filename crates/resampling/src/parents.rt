@@ -1,5 +1,5 @@
 // The parents of a resampling.
-ghost use Rattle.std.specs.Prelude.{◌≡◌, ◌+◌, ◌*◌, ◌<◌, ◌≤◌, ◌++◌, length, take, drop, IfOk};
+ghost use Rattle.std.specs.Prelude.{◌≡◌, ◌+◌, ◌*◌, ◌<◌, ◌≤◌, length, take, IfOk};
 ghost use Rattle.resampling.specs.Marks.{total, before, owner, offset, parents};
 ghost use Rattle.resampling.specs.Calls.{parents_reply, row_after};
 ghost use Rattle.resampling.specs.Systematic.{Systematic};
@@ -36,6 +36,7 @@ impl<'a> Pass<'a> {
     }
 
     // Goes on to the particle that has the mark, and answers it; the marks come in rising order.
+    // The index is counted by hand: a particle may have many marks or none, and its number is the answer.
     fn owner_of(&mut self, mark: u64) -> u32
         requires from { length self.old.weights.now * before self.old.weights.now self.old.particle ≤ mark }
         requires upto { mark < length self.old.weights.now * total self.old.weights.now }
@@ -53,8 +54,8 @@ impl<'a> Pass<'a> {
 }
 
 // Particles go up with the marks, so that one pass over them finds all parents.
-// The bound on the weights is asked for and not carried by a type of theirs: `total_weight` tests it once, and each function that needs it has one caller.
-fn fill(weights: &[u16], whole: u32, first: u32, row: &mut [u32])
+// The bounds on the weights are asked for: `total_weight` tests them once, and a type of its own would serve this one call.
+fn write_by_marks(weights: &[u16], whole: u32, first: u32, row: &mut [u32])
     requires few { length weights.now ≤ 256 }
     requires room { length row.old ≡ length weights.now }
     requires sum { whole ≡ total weights.now }
@@ -63,14 +64,13 @@ fn fill(weights: &[u16], whole: u32, first: u32, row: &mut [u32])
     ensures { row.new ≡ parents weights.now first }
 {
     let mut pass = Pass::over(weights);
-    let mut mark = u64::from(first);
-    for parent in row.iter_mut() {
-        *parent = pass.owner_of(mark);
-        mark += u64::from(whole);
+    for (k, parent) in row.iter_mut().enumerate() {
+        *parent = pass.owner_of(u64::from(first) + k as u64 * u64::from(whole));
     }
 }
 
 // Writes the parent of each new particle into the front of the row, and answers how many there are.
+// The row is lent, since a resampling takes no heap; so the answer is a count.
 pub fn write_parents(weights: &[u16], drawn: u32, row: &mut [u32]) -> Result<usize, Refusal>
     ensures reply { result ≡ parents_reply weights.now (length row.old) }
     ensures row { row.new ≡ row_after result (parents weights.now (offset drawn (total weights.now))) row.old }
@@ -81,6 +81,6 @@ pub fn write_parents(weights: &[u16], drawn: u32, row: &mut [u32]) -> Result<usi
         return Err(Refusal::NoRoom);
     }
     let front = &mut row[..weights.len()];
-    fill(weights, whole, offset_of(drawn, whole), front);
+    write_by_marks(weights, whole, offset_of(drawn, whole), front);
     Ok(weights.len())
 }

@@ -20,7 +20,7 @@ pub fn total_weight(weights: &[u16]) -> Result<u32, Refusal>
     ensures value { result ≡ total_of weights.now }
     ensures bound { IfOk result (λ w. (0 < w) × (w ≤ 16776960)) }
 {
-    if weights.is_empty() || weights.len() > MOST_PARTICLES {
+    if !(1..=MOST_PARTICLES).contains(&weights.len()) {
         return Err(Refusal::OutOfRange);
     }
     let sum = sum_of(weights);

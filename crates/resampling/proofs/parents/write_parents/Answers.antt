@@ -12,5 +12,5 @@ returns-clause-systematic c =
     let u = offset c.args.drawn (total ws) in
     let whole : c.in_ok-whole.whole ≡ total ws = search rules in
     let inside : u < total ws = offset_below c.args.drawn (total ws) (omega (arith, c.in_ok-whole.ensures.bound)) c.ranges.drawn.fits in
-    let row : c.fill.new.row ≡ parents ws u = cc (c.fill.ensures, c.offset_of.ensures.value) in
+    let row : c.write_by_marks.new.row ≡ parents ws u = cc (c.write_by_marks.ensures, c.offset_of.ensures.value) in
     rw row (subst (Systematic ws u) (sym (take_at _ _ _ (systematic ws u inside).count)) (systematic ws u inside))
