@@ -55,6 +55,7 @@ impl Source for Generator {
         true
     }
 
+    // A method's clauses stand in the place of all of its trait's: `same` says that `recorded` is 0 before and after.
     fn draw(&mut self) -> Result<u32, Refusal>
         ensures answer { result ≡ drawn (generator_supply self.old.value) }
         ensures rest { generator_supply self.new.value ≡ left (generator_supply self.old.value) }
