@@ -3,6 +3,7 @@ ghost use Rattle.std.specs.Prelude.{◌≡◌, None};
 ghost use Rattle.replay.specs.Differences.{differs_in};
 
 // The first line in which the texts differ, from 1; none exactly where they are equal.
+// A loop goes over the texts once; a search for the place and a count of the line feeds before it would go over them twice.
 pub fn first_difference(got: &[u8], wanted: &[u8]) -> Option<usize>
     ensures value { result ≡ differs_in 1 got.now wanted.now }
     ensures exact { (result ≡ None → got.now ≡ wanted.now) × (got.now ≡ wanted.now → result ≡ None) }
