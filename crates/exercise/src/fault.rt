@@ -77,6 +77,7 @@ impl Failure {
     }
 }
 
+// Written out: a derived `From` has no contract, and clauses name the fault.
 impl From<AllocError> for Failure {
     ghost from_gives = { λ e r. r ≡ Memory e };
 

@@ -2,8 +2,7 @@
 ghost use Rattle.std.specs.Prelude.{◌≡◌, ◌+◌, IfOk, IfSome, take};
 
 use std::alloc::Global;
-use std::io;
-use std::io::Read;
+use std::io::{self, Read};
 
 // Longer inputs are refused.
 pub const LONGEST_INPUT: usize = 32768;

@@ -14,6 +14,7 @@ pub enum ListFault {
     Field(FieldFault),
 }
 
+// Written out: a derived `From` has no contract, and clauses name the fault.
 impl From<FieldFault> for ListFault {
     ghost from_gives = { λ f r. r ≡ Field f };
 
