@@ -1,9 +1,9 @@
 -- The ways through a start.
-use Rattle.std.proofs.Common.{◌≡◌, ℕ, ◌+◌, ◌<◌, ◌≤◌, true, false, leb, ◌⊎◌, List, [], ◌∷◌, length, get_or, Some, None, sum_by, Option, sym, refl, ap, ◌∙◌, subst, ⊎_elim, arith}
+use Rattle.std.proofs.Common.{◌≡◌, ℕ, ◌+◌, ◌<◌, ◌≤◌, true, false, leb, List, [], ◌∷◌, length, get_or, Some, None, sum_by, Option, sym, refl, ap, ◌∙◌, subst, arith}
 use mathlib.Core.Logic.{∥∥₁_map}
 use Rattle.std.proofs.lemmas.List.{nil_from_length}
 use Rattle.std.proofs.lemmas.List.FromFn.{get_or-map-range_with_len, length-map-range_with_len}
-use Rattle.std.proofs.lemmas.Bool.{and_from, and_left, and_right, le-leb, lt-leb}
+use Rattle.std.proofs.lemmas.Bool.{and_from, le-leb, lt-leb}
 use Rattle.refusals.specs.declared.Refusal.TheVariants.{WrongPhase, OutOfRange, NoNodesLeft, SourceDry}
 use Rattle.resampling.specs.Calls.{in_range}
 use Rattle.sources.specs.Supplies.{Supply, after}
@@ -44,6 +44,9 @@ not_empty Weighed h = refl
 pub start_map : {S : Type 0} (v : View S) → SomeFilter v → SomeMap (links v.nodes) v.head v.free
 start_map v s = ∥∥₁_map s (λ (node, f, h). (named v.tips v.holds, h.serial, node, f.issued, h.tree, h.inverse))
 
+pub range_fits : (n : ℕ) → in_range n ≡ true → (1 ≤ n) × (n ≤ 256)
+range_fits n e = grind (arith, e)
+
 module _ {S : Type 0} (m : Meaning S) (n : ℕ) (v : View S) (q : Supply) where
   pub start_wrong_phase : (v.phase ≡ Empty → ⊥) → Follows m (start n) (refused WrongPhase) v q v q
   start_wrong_phase no_way node f h src = taken_refused m (start n) v q node f WrongPhase h src
@@ -53,10 +56,9 @@ module _ {S : Type 0} (m : Meaning S) (n : ℕ) (v : View S) (q : Supply) where
     past_phase : (node : ℕ → ℕ) (f : Filter S) → Represents node v f → refusal m f (start n) ≡ unless (in_range n) OutOfRange (unless (leb n (free f)) NoNodesLeft (unless (f.source.can n) SourceDry None))
     past_phase node f h = passed _ (ap is_empty (h.phase ∙ empty_now))
 
-    pub start_out_of_range : (n < 1) ⊎ ((1 ≤ n) × (256 < n)) → Follows m (start n) (refused OutOfRange) v q v q
+    pub start_out_of_range : in_range n ≡ false → Follows m (start n) (refused OutOfRange) v q v q
     start_out_of_range bad node f h src =
-        let b : in_range n ≡ false = ⊎_elim (λ l. and_left (leb 1 n) (leb n 256) (lt-leb 1 n l)) (λ l. and_right (leb 1 n) (leb n 256) (lt-leb n 256 l.1)) bad in
-        taken_refused m (start n) v q node f OutOfRange h src (past_phase node f h ∙ failed _ b)
+        taken_refused m (start n) v q node f OutOfRange h src (past_phase node f h ∙ failed _ bad)
 
     module _ (low : 1 ≤ n) (high : n ≤ 256) where
       past_range : (node : ℕ → ℕ) (f : Filter S) → Represents node v f → refusal m f (start n) ≡ unless (leb n (free f)) NoNodesLeft (unless (f.source.can n) SourceDry None)
@@ -136,3 +138,7 @@ module _ {S : Type 0} (m : Meaning S) (n : ℕ) (v : View S) (q : Supply) where
               (omega (arith, a, b, len, ef))
               refl
               (record { kept = g.older; new = λ s l l2. seen_free v.nodes (g.node' s) (g.fresh s l (omega (arith, en))) })
+
+-- the reply tells the number itself
+pub issued_as : {S : Type 0} {m : Meaning S} {n k : ℕ} {v v' : View S} {q q' : Supply} → k ≡ n → Follows m (start n) (done n 0 nothing) v q v' q' → Follows m (start n) (done k 0 nothing) v q v' q'
+issued_as {S} {m} {n} {k} {v} {v'} {q} {q'} e go = subst (λ j. Follows m (start n) (done j 0 nothing) v q v' q') (sym e) go

@@ -14,6 +14,7 @@ pub struct Cloud<'a, S> {
     pub(crate) rest: &'a mut [Node<S>],
     // the newest node of each particle
     pub(crate) tips: ArrayVec<u16, 256>,
+    // the weight of each particle; apart from the tips, since resampling takes a slice of weights, and a call has no heap for a copy
     pub(crate) weights: ArrayVec<u16, 256>,
     // the node of each open place
     pub(crate) holds: [Option<u16>; 16],

@@ -1,4 +1,4 @@
-// States drawn from a model with the next number of a source, and scores.
+// The next number of a source, and the moves and scores of a model.
 ghost use Rattle.std.specs.Prelude.{◌≡◌, ◌≤◌, true};
 ghost use Rattle.sources.specs.Supplies.{after};
 ghost use Rattle.cloud.specs.Guards.{guarded_move, guarded_score};

@@ -9,8 +9,8 @@ ghost use Rattle.cloud.specs.Tracks.{Inverse};
 ghost use Rattle.cloud.specs.Forests.{links_of, states_of, IsTree, HasTree, HasTreeAt, HasTreeAll, HasMap, HasMapAll, HasTreeFew, Births, Longer};
 
 use crate::draw::{move_of, next_number, score_of};
-use crate::node::{Node, state_of};
-use crate::tree::{issue, make_free, release, retain};
+use crate::node::{MOST_NODES, Node};
+use crate::tree;
 use arrayvec::ArrayVec;
 use models::model::Model;
 use models::state::State;
@@ -26,14 +26,14 @@ pub(crate) struct Forest<'a, S> {
 }
 
 // A tree with no node in use, over the first 65,536 nodes at most.
-// It takes its part of what it is lent, so that it asks nothing of the caller.
+// It cuts again what its caller has cut, so that it asks nothing.
 pub(crate) fn make<S>(nodes: &mut [Node<S>]) -> Forest<S>
     ensures size { length result.nodes.now ≡ min (length nodes.old) 65536 }
     ensures tree { (serial : ℕ → ℕ) → IsTree result (λ _. 0) serial 0 }
 {
-    let n = nodes.len().min(65536);
+    let n = nodes.len().min(MOST_NODES);
     let part = &mut nodes[..n];
-    let head = make_free(part);
+    let head = tree::make_free(part);
     Forest {
         nodes: part,
         head,
@@ -54,7 +54,7 @@ impl<S: Copy> Forest<'_, S> {
         ensures free { self.new.free ≡ self.old.free }
         ensures tree { (w serial : ℕ → ℕ) (issued : ℕ) → IsTree self.old w serial issued → IsTree self.new (λ n. w n + is_node n node) serial issued }
     {
-        retain(self.nodes, node);
+        tree::retain(self.nodes, node);
     }
 
     // One particle or hold less names the node, and what nothing hangs on any more is freed; how many nodes were.
@@ -65,7 +65,7 @@ impl<S: Copy> Forest<'_, S> {
         ensures tree { (w serial : ℕ → ℕ) (issued : ℕ) → IsTree self.old (λ n. w n + is_node n node) serial issued → IsTree self.new w serial issued }
     {
         let first = self.head;
-        let (head, freed) = release(self.nodes, first, node);
+        let (head, freed) = tree::release(self.nodes, first, node);
         self.head = head;
         self.free += freed as usize;
         freed
@@ -98,10 +98,18 @@ impl<S: Copy> Forest<'_, S> {
         ensures tree { (w serial : ℕ → ℕ) (issued : ℕ) → IsTree self.old (λ n. w n + is_named parent n) serial issued → IsTree self.new (λ n. w n + is_node n result) (with_serial serial result issued) (issued + 1) }
     {
         let node = self.head.unwrap();
-        let next = issue(self.nodes, node, state, parent);
+        let next = tree::issue(self.nodes, node, state, parent);
         self.head = next;
         self.free -= 1;
         node
+    }
+
+    // The state at the node.
+    fn state_of(&self, node: u16) -> S
+        requires { node < length self.now.nodes.now }
+        ensures { (d : S) → result ≡ slice_index_or (states_of self.now) node d }
+    {
+        self.nodes[usize::from(node)].state
     }
 
     // So many nodes with no parent, each with the birth of a number of its own.
@@ -147,7 +155,7 @@ impl<S: Copy> Forest<'_, S> {
     {
         for tip in tips.iter_mut() {
             let parent = *tip;
-            let old = state_of(self.nodes, parent);
+            let old = self.state_of(parent);
             let state = move_of(model, old, command, next_number(source));
             *tip = self.issue(state, Some(parent));
         }
@@ -155,23 +163,21 @@ impl<S: Copy> Forest<'_, S> {
 
     // The score of the newest state of each path; their total.
     pub(crate) fn score_tips<M: Model<State = S>>(
-        &mut self,
+        &self,
         model: &M,
         reading: u8,
-        tips: &[u16],
+        tips: &ArrayVec<u16, 256>,
         weights: &mut ArrayVec<u16, 256>,
     ) -> u32
-        requires few { length tips.now ≤ 256 }
-        requires inside { (i : ℕ) → i < length tips.now → slice_index tips.now i < length self.old.nodes.now }
-        ensures same { self.new ≡ self.old }
-        ensures number { length weights.new.items ≡ length tips.now }
-        ensures scores { (i : ℕ) (d : S) → i < length tips.now → slice_index weights.new.items i ≡ guarded_score S.State.kind (M.meaning model.now) (slice_index_or (states_of self.old) (slice_index tips.now i) d) reading }
+        requires { (i : ℕ) → i < length tips.now.items → slice_index tips.now.items i < length self.now.nodes.now }
+        ensures number { length weights.new.items ≡ length tips.now.items }
+        ensures scores { (i : ℕ) (d : S) → i < length tips.now.items → slice_index weights.new.items i ≡ guarded_score S.State.kind (M.meaning model.now) (slice_index_or (states_of self.now) (slice_index tips.now.items i) d) reading }
         ensures sum { result ≡ total weights.new.items }
     {
         let mut sum = 0;
         weights.clear();
-        for tip in tips {
-            let state = state_of(self.nodes, *tip);
+        for tip in tips.iter() {
+            let state = self.state_of(*tip);
             let weight = score_of(model, state, reading);
             weights.push(weight);
             sum += u32::from(weight);
@@ -180,14 +186,13 @@ impl<S: Copy> Forest<'_, S> {
     }
 
     // The node of each parent is named once more; these nodes.
-    fn retain_parents(&mut self, old: &[u16], parents: &[u32]) -> ArrayVec<u16, 256>
-        requires few { length old.now ≤ 256 }
+    fn retain_parents(&mut self, old: &ArrayVec<u16, 256>, parents: &[u32]) -> ArrayVec<u16, 256>
         requires fits { length parents.now ≤ 256 }
-        requires below { (k : ℕ) → k < length parents.now → slice_index parents.now k < length old.now }
-        requires tree { HasTreeFew self.old old.now }
+        requires below { (k : ℕ) → k < length parents.now → slice_index parents.now k < length old.now.items }
+        requires tree { HasTreeFew self.old old.now.items }
         ensures kept { Keeps self.old.nodes.now self.new.nodes.now }
         ensures free { self.new.free ≡ self.old.free }
-        ensures children { result.items ≡ map (slice_index old.now) parents.now }
+        ensures children { result.items ≡ map (slice_index old.now.items) parents.now }
         ensures tree { (w serial : ℕ → ℕ) (issued : ℕ) → IsTree self.old w serial issued → IsTree self.new (λ k. w k + sum_by (is_node k) result.items) serial issued }
     {
         let mut children = ArrayVec::new();

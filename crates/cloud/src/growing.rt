@@ -1,5 +1,5 @@
 // The calls that issue nodes: start and advance.
-ghost use Rattle.std.specs.Prelude.{◌≡◌, Ok, Err};
+ghost use Rattle.std.specs.Prelude.{◌≡◌, OnErr};
 ghost use Rattle.filter.specs.Calls.{start as to_start, advance as to_advance};
 ghost use Rattle.cloud.specs.Promises.{Steps, GoesOn};
 ghost use Rattle.cloud.specs.Views.{view, told};
@@ -10,9 +10,12 @@ use filter::phase::Phase;
 use models::model::Model;
 use models::state::State;
 use refusals::Refusal;
+use resampling::total::MOST_PARTICLES;
 use sources::Source;
 
-// What every call leaves alone (`same`, `count`, `rest`) is said of before and after, which no invariant of the cloud could carry.
+// What every call leaves alone and what it promises (`same`, `count`, `rest`, `steps`, `runs`) is said of before and after, which no invariant of the cloud could carry.
+// Model and source stay two parameters, since a call may take either alone.
+// The tests of the phase stay where they are: a function for them would have three forms.
 impl<S: State> Cloud<'_, S> {
     // Begins with n particles, each at the birth of a number of its own, drawn in particle order.
     pub fn start<M: Model<State = S>, R: Source>(
@@ -21,7 +24,7 @@ impl<S: State> Cloud<'_, S> {
         source: &mut R,
         n: u16,
     ) -> Result<Change, Refusal>
-        ensures same { elim result [ Ok _ ↦ Unit {0} | Err _ ↦ (self.new ≡ self.old) × (source.new ≡ source.old) ] }
+        ensures same { OnErr result ((self.new ≡ self.old) × (source.new ≡ source.old)) }
         ensures count { R.recorded source.new ≡ R.recorded source.old }
         ensures rest { self.new.rest ≡ self.old.rest }
         ensures steps { Steps S.State.kind (M.meaning model.now) (to_start n) (told result) (view self.old) (R.supply source.old) (view self.new) (R.supply source.new) }
@@ -30,21 +33,21 @@ impl<S: State> Cloud<'_, S> {
         if self.phase != Phase::Empty {
             return Err(Refusal::WrongPhase);
         }
-        if n < 1 || n > 256 {
+        let many = usize::from(n);
+        if !(1..=MOST_PARTICLES).contains(&many) {
             return Err(Refusal::OutOfRange);
         }
-        let many = n as usize;
         if self.forest.free < many {
             return Err(Refusal::NoNodesLeft);
         }
-        if !source.can_draw(n as u32) {
+        if !source.can_draw(u32::from(n)) {
             return Err(Refusal::SourceDry);
         }
         self.tips = self.forest.issue_births(model, source, many);
         self.round = 0;
         self.phase = Phase::Level;
         Ok(Change {
-            issued: n as u32,
+            issued: u32::from(n),
             freed: 0,
         })
     }
@@ -56,7 +59,7 @@ impl<S: State> Cloud<'_, S> {
         source: &mut R,
         command: u8,
     ) -> Result<Change, Refusal>
-        ensures same { elim result [ Ok _ ↦ Unit {0} | Err _ ↦ (self.new ≡ self.old) × (source.new ≡ source.old) ] }
+        ensures same { OnErr result ((self.new ≡ self.old) × (source.new ≡ source.old)) }
         ensures count { R.recorded source.new ≡ R.recorded source.old }
         ensures rest { self.new.rest ≡ self.old.rest }
         ensures steps { Steps S.State.kind (M.meaning model.now) (to_advance command) (told result) (view self.old) (R.supply source.old) (view self.new) (R.supply source.new) }

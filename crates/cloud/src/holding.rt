@@ -1,5 +1,5 @@
 // The calls on paths that are kept or let go: hold, give back and finish.
-ghost use Rattle.std.specs.Prelude.{◌≡◌, ℕ, ◌<◌, None, Ok, Err, MatchOption, ◌≢◌, slice_index_or};
+ghost use Rattle.std.specs.Prelude.{◌≡◌, ℕ, ◌<◌, None, OnErr, IfErr, MatchOption, MatchResult, ◌≢◌, slice_index_or};
 ghost use Rattle.sources.specs.Supplies.{Supply};
 ghost use Rattle.models.specs.Kinds.{Kind};
 ghost use Rattle.models.specs.Meanings.{Meaning};
@@ -23,13 +23,13 @@ fn first_closed(holds: &[Option<u16>; 16]) -> Option<usize>
 fn node_in(holds: &[Option<u16>; 16], place: u8) -> Option<u16>
     ensures { result ≡ slice_index_or holds.now place None }
 {
-    holds.get(place as usize).copied().flatten()
+    holds.get(usize::from(place)).copied().flatten()
 }
 
 impl<S: Copy> Cloud<'_, S> {
     // Keeps the path of a particle in a closed place, and answers a hold on it.
     pub fn hold(&mut self, particle: u16) -> Result<Held, Refusal>
-        ensures same { elim result [ Ok h ↦ h.hold.stamp ≡ self.old.stamp | Err _ ↦ self.new ≡ self.old ] }
+        ensures same { MatchResult result (λ h. h.hold.stamp ≡ self.old.stamp) (λ _. self.new ≡ self.old) }
         ensures rest { self.new.rest ≡ self.old.rest }
         ensures steps { (k : Kind S) (m : Meaning S) (q : Supply) → Steps k m (to_hold particle) (told_held result) (view self.old) q (view self.new) q }
         ensures runs { (k : Kind S) (m : Meaning S) (q : Supply) → GoesOn k m (to_hold particle) (told_held result) (view self.old) q (view self.new) q }
@@ -37,7 +37,7 @@ impl<S: Copy> Cloud<'_, S> {
         if self.phase == Phase::Empty {
             return Err(Refusal::WrongPhase);
         }
-        let Some(&node) = self.tips.get(particle as usize) else {
+        let Some(&node) = self.tips.get(usize::from(particle)) else {
             return Err(Refusal::OutOfRange);
         };
         let Some(place) = first_closed(&self.holds) else {
@@ -59,7 +59,7 @@ impl<S: Copy> Cloud<'_, S> {
 
     // Closes the place of the hold; a refusal hands the hold over again.
     pub fn give_back(&mut self, hold: Hold) -> Result<Change, (Refusal, Hold)>
-        ensures same { elim result [ Ok _ ↦ Unit {0} | Err p ↦ (p.1 ≡ hold) × (self.new ≡ self.old) ] }
+        ensures same { IfErr result (λ p. (p.1 ≡ hold) × (self.new ≡ self.old)) }
         ensures rest { self.new.rest ≡ self.old.rest }
         ensures steps { (k : Kind S) (m : Meaning S) (q : Supply) → Steps k m (to_give_back hold.stamp hold.place) (told_back result) (view self.old) q (view self.new) q }
         ensures runs { (k : Kind S) (m : Meaning S) (q : Supply) → GoesOn k m (to_give_back hold.stamp hold.place) (told_back result) (view self.old) q (view self.new) q }
@@ -70,16 +70,16 @@ impl<S: Copy> Cloud<'_, S> {
         let Some(node) = node_in(&self.holds, hold.place) else {
             return Err((Refusal::NotHeld, hold));
         };
-        let place = hold.place as usize;
-        let Hold { stamp: _, place: _ } = hold;
-        self.holds[place] = None;
+        // a hold cannot be dropped, so it is taken apart
+        let Hold { stamp: _, place } = hold;
+        self.holds[usize::from(place)] = None;
         let freed = self.forest.release(node);
         Ok(Change { issued: 0, freed })
     }
 
     // Lets all particles go; open holds stay.
     pub fn finish(&mut self) -> Result<Change, Refusal>
-        ensures same { elim result [ Ok _ ↦ Unit {0} | Err _ ↦ self.new ≡ self.old ] }
+        ensures same { OnErr result (self.new ≡ self.old) }
         ensures rest { self.new.rest ≡ self.old.rest }
         ensures steps { (k : Kind S) (m : Meaning S) (q : Supply) → Steps k m to_finish (told result) (view self.old) q (view self.new) q }
         ensures runs { (k : Kind S) (m : Meaning S) (q : Supply) → GoesOn k m to_finish (told result) (view self.old) q (view self.new) q }

@@ -5,11 +5,9 @@ ghost use Rattle.cloud.specs.Views.{view};
 
 use crate::cloud::Cloud;
 use crate::forest::make;
-use crate::node::Node;
+use crate::node::{MOST_NODES, Node};
 use arrayvec::ArrayVec;
 use filter::phase::Phase;
-
-const MOST_NODES: usize = 65536;
 
 impl<S: Copy> Cloud<'_, S> {
     // A cloud with no particle, over the first 65,536 of the nodes at most. The stamp tells its holds from those of other clouds.

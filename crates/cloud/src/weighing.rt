@@ -1,5 +1,5 @@
 // The calls on weights: weigh and resample.
-ghost use Rattle.std.specs.Prelude.{◌≡◌, Ok, Err};
+ghost use Rattle.std.specs.Prelude.{◌≡◌, OnErr};
 ghost use Rattle.sources.specs.Supplies.{Supply};
 ghost use Rattle.models.specs.Kinds.{Kind};
 ghost use Rattle.models.specs.Meanings.{Meaning};
@@ -25,7 +25,7 @@ impl<S: State> Cloud<'_, S> {
         model: &M,
         reading: u8,
     ) -> Result<Weighing, Refusal>
-        ensures same { elim result [ Ok _ ↦ Unit {0} | Err _ ↦ self.new ≡ self.old ] }
+        ensures same { OnErr result (self.new ≡ self.old) }
         ensures rest { self.new.rest ≡ self.old.rest }
         ensures steps { (q : Supply) → Steps S.State.kind (M.meaning model.now) (to_weigh reading) (told_weighing result) (view self.old) q (view self.new) q }
         ensures runs { (q : Supply) → GoesOn S.State.kind (M.meaning model.now) (to_weigh reading) (told_weighing result) (view self.old) q (view self.new) q }
@@ -51,7 +51,7 @@ impl<S: State> Cloud<'_, S> {
 
     // Replaces the particles by as many children, by systematic resampling with one number drawn.
     pub fn resample<R: Source>(&mut self, source: &mut R) -> Result<Change, Refusal>
-        ensures same { elim result [ Ok _ ↦ Unit {0} | Err _ ↦ (self.new ≡ self.old) × (source.new ≡ source.old) ] }
+        ensures same { OnErr result ((self.new ≡ self.old) × (source.new ≡ source.old)) }
         ensures count { R.recorded source.new ≡ R.recorded source.old }
         ensures rest { self.new.rest ≡ self.old.rest }
         ensures steps { (k : Kind S) (m : Meaning S) → Steps k m to_resample (told result) (view self.old) (R.supply source.old) (view self.new) (R.supply source.new) }
@@ -65,7 +65,7 @@ impl<S: State> Cloud<'_, S> {
         }
         total_weight(&self.weights)?;
         let number = next_number(source);
-        // the parents go into a row of the caller's, with no heap
+        // `write_parents` writes into a row that it is lent, and a call takes no heap
         let mut parents = [0; 256];
         let n = write_parents(&self.weights, number, &mut parents).unwrap();
         let freed = self.forest.resettle(&mut self.tips, &parents[..n]);

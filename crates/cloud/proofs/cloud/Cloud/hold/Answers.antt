@@ -34,7 +34,7 @@ retain-requires g c =
     let v = view c.args.self.now in
     let inside : c.args.particle < length c.args.self.now.tips.items = omega (arith, c.in-Some.ensures.lookup.3.0, ap length c.deref.ensures.0) in
     let few = few_particles v c.args.self.now.represented (search rules) in
-    let is = (ap (λ us. get_or us c.args.particle 0) (sym c.deref.ensures.0) ∙ sym (c.in-Some.ensures.lookup.3.1 0)) in
+    let is = (ap (λ us. get_or us c.args.particle 0) (sym c.deref.ensures.0) ∙ ap (λ k. get_or c.deref.result.now k 0) (sym c.from.ensures) ∙ sym (c.in-Some.ensures.lookup.3.1 0)) in
     record {
       within = subst (λ k. k < length c.args.self.now.forest.nodes.now) is (hold_inside v c.args.self.now.represented c.args.particle inside few);
       used = subst (λ k. 0 < (link_at (links_of c.args.self.now.forest) k).count) is (hold_used v c.args.self.now.represented c.args.particle inside few);
@@ -44,11 +44,11 @@ retain-requires g c =
 pub invariant_of-self : goal.invariant_of-self
 invariant_of-self g c =
     let kept = c.retain.new.self in
-    let go = λ (m : Meaning g.row.S.Denot) (q : Supply). hold_granted m q (view c.args.self.now) c.args.particle (search rules) (omega (arith, c.in-Some.ensures.lookup.3.0, ap length c.deref.ensures.0)) c.in-Some.field-0.now (ap (λ us. get_or us c.args.particle 0) (sym c.deref.ensures.0) ∙ sym (c.in-Some.ensures.lookup.3.1 0)) c.in-Some-first_closed.place c.in-Some-first_closed.ensures.0 c.in-Some-first_closed.ensures.1 kept.nodes.now kept.head kept.free c.retain.ensures.free c.retain.ensures.kept c.retain.ensures.tree c.args.self.now.stamp refl in
+    let go = λ (m : Meaning g.row.S.Denot) (q : Supply). hold_granted m q (view c.args.self.now) c.args.particle (search rules) (omega (arith, c.in-Some.ensures.lookup.3.0, ap length c.deref.ensures.0)) c.in-Some.field-0.now (ap (λ us. get_or us c.args.particle 0) (sym c.deref.ensures.0) ∙ ap (λ k. get_or c.deref.result.now k 0) (sym c.from.ensures) ∙ sym (c.in-Some.ensures.lookup.3.1 0)) c.in-Some-first_closed.place c.in-Some-first_closed.ensures.0 c.in-Some-first_closed.ensures.1 kept.nodes.now kept.head kept.free c.retain.ensures.free c.retain.ensures.kept c.retain.ensures.tree c.args.self.now.stamp refl in
     record { represented = some_free (living_path (view c.args.self.now) (search rules)) go c.args.self.now.represented }
 
 pub returns : goal.returns
 returns g c =
     let kept = c.retain.new.self in
-    let go = λ (m : Meaning g.row.S.Denot) (q : Supply). hold_granted m q (view c.args.self.now) c.args.particle (search rules) (omega (arith, c.in-Some.ensures.lookup.3.0, ap length c.deref.ensures.0)) c.in-Some.field-0.now (ap (λ us. get_or us c.args.particle 0) (sym c.deref.ensures.0) ∙ sym (c.in-Some.ensures.lookup.3.1 0)) c.in-Some-first_closed.place c.in-Some-first_closed.ensures.0 c.in-Some-first_closed.ensures.1 kept.nodes.now kept.head kept.free c.retain.ensures.free c.retain.ensures.kept c.retain.ensures.tree c.args.self.now.stamp refl in
+    let go = λ (m : Meaning g.row.S.Denot) (q : Supply). hold_granted m q (view c.args.self.now) c.args.particle (search rules) (omega (arith, c.in-Some.ensures.lookup.3.0, ap length c.deref.ensures.0)) c.in-Some.field-0.now (ap (λ us. get_or us c.args.particle 0) (sym c.deref.ensures.0) ∙ ap (λ k. get_or c.deref.result.now k 0) (sym c.from.ensures) ∙ sym (c.in-Some.ensures.lookup.3.1 0)) c.in-Some-first_closed.place c.in-Some-first_closed.ensures.0 c.in-Some-first_closed.ensures.1 kept.nodes.now kept.head kept.free c.retain.ensures.free c.retain.ensures.kept c.retain.ensures.tree c.args.self.now.stamp refl in
     record { same = refl; rest = refl; steps = λ k m q. (promised k (go m q)).0; runs = λ k m q. (promised k (go m q)).1 }

@@ -1,4 +1,5 @@
 use Rattle.std.proofs.Common.{◌≡◌, take, Ok, Err, Result, sym, refl, ap, ◌∙◌, subst, arith, rules}
+use Rattle.std.specs.Result.{OnErr}
 use Rattle.resampling.specs.Calls.{total_of}
 use Rattle.models.specs.Meanings.{Meaning}
 use Rattle.filter.specs.Calls.{resample}
@@ -28,7 +29,7 @@ returns-then-not-can_draw g c = record {
   runs = λ k m. (promised k (resample_dry m (view c.args.self.now) (g.R.Source.supply c.args.source.now) (search rules) (search rules))).1;
 }
 
-refused_same : {X Y : Type 0} (r : Result X Y) (P : Type 0) → P → elim r as (λ _. Type 0) [ Ok _ ↦ Unit {0} | Err _ ↦ P ]
+refused_same : {X Y : Type 0} (r : Result X Y) (P : Type 0) → P → OnErr r P
 refused_same (Ok x) P p = tt
 refused_same (Err e) P p = p
 

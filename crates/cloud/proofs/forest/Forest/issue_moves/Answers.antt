@@ -1,8 +1,7 @@
-use Rattle.std.proofs.Common.{◌≡◌, length, get_or, set, Some, sym, refl, ap, ◌∙◌, subst, arith}
+use Rattle.std.proofs.Common.{◌≡◌, length, sym, refl, ap, ◌∙◌, subst, arith}
 use Rattle.std.proofs.lemmas.List.{length-map}
 use Rattle.sources.proofs.Draws.{after_none}
-use Rattle.cloud.specs.Links.{links, states, linked, link_at}
-use Rattle.cloud.specs.Trees.{SomeTree}
+use Rattle.cloud.specs.Links.{links, states}
 use Rattle.cloud.specs.Guards.{guarded_move}
 use Rattle.cloud.specs.Forests.{Longer}
 use Rattle.cloud.proofs.Drawing.{can_now, number_now, rest_now}
@@ -19,7 +18,7 @@ loop-tip-init g c = record {
 }
 
 pub issue-requires-clause-tree : goal.issue-requires-clause-tree
-issue-requires-clause-tree g c = subst (λ xs. SomeTree (links xs) c.loop-tip.self.head c.loop-tip.self.free) (sym c.state_of-old.ensures.kept) (moved_some_tree (links c.args.self.now.nodes.now) (links c.loop-tip.self.nodes.now) (states c.args.self.now.nodes.now) (states c.loop-tip.self.nodes.now) c.args.self.now.head c.loop-tip.self.head c.args.self.now.free c.loop-tip.self.free c.args.tips.now c.loop-tip.tips _ c.loop-tip.tip-index c.loop-tip.invariant.moved c.requires.map)
+issue-requires-clause-tree g c = moved_some_tree (links c.args.self.now.nodes.now) (links c.loop-tip.self.nodes.now) (states c.args.self.now.nodes.now) (states c.loop-tip.self.nodes.now) c.args.self.now.head c.loop-tip.self.head c.args.self.now.free c.loop-tip.self.free c.args.tips.now c.loop-tip.tips _ c.loop-tip.tip-index c.loop-tip.invariant.moved c.requires.map
 
 pub state_of-old-requires : goal.state_of-old-requires
 state_of-old-requires g c =
@@ -32,20 +31,15 @@ next_number-requires g c = can_now (g.R.Source.supply c.args.source.now) _ (g.me
 pub loop-tip-preserved : goal.loop-tip-preserved
 loop-tip-preserved g c =
     let s = g.R.Source.supply c.args.source.now in
-    let parent = Some (get_or c.loop-tip.tips c.loop-tip.tip-index 0) in
     record {
       rest = rest_now s _ _ c.loop-tip.tip-index c.loop-tip.invariant.rest c.next_number.ensures.rest;
       same = c.next_number.ensures.same ∙ c.loop-tip.invariant.same;
       free = omega (arith, c.loop-tip.invariant.free, c.issue.ensures.free);
       moved = λ w serial node issued t inv.
           let lt : length (states c.loop-tip.self.nodes.now) ≡ length (links c.loop-tip.self.nodes.now) = length-map c.loop-tip.self.nodes.now _ ∙ sym (length-map c.loop-tip.self.nodes.now _) in
-          moved_step (links c.args.self.now.nodes.now) (links c.loop-tip.self.nodes.now) (links c.issue.new.self.nodes.now) (states c.args.self.now.nodes.now) (states c.loop-tip.self.nodes.now) (states c.issue.new.self.nodes.now) c.loop-tip.self.head c.issue.new.self.head c.loop-tip.self.free c.issue.new.self.free c.args.tips.now c.loop-tip.tips _ c.loop-tip.tip-index c.issue.result c.state_of-old.result c.move_of-state.result w serial node issued (omega arith) lt c.state_of-old.ensures.value
+          moved_step (links c.args.self.now.nodes.now) (links c.loop-tip.self.nodes.now) (links c.issue.new.self.nodes.now) (states c.args.self.now.nodes.now) (states c.loop-tip.self.nodes.now) (states c.issue.new.self.nodes.now) c.loop-tip.self.head c.issue.new.self.head c.loop-tip.self.free c.issue.new.self.free c.args.tips.now c.loop-tip.tips _ c.loop-tip.tip-index c.issue.result c.state_of-old.result c.move_of-state.result w serial node issued (omega arith) lt c.state_of-old.ensures
           (c.move_of-state.ensures ∙ ap (guarded_move g.S.State.kind (g.M.Model.meaning c.args.model.now) c.state_of-old.result c.args.command) (c.next_number.ensures.value ∙ number_now s _ c.loop-tip.tip-index c.loop-tip.invariant.rest))
-          c.issue.ensures.first
-          (◌∙◌ {b = (link_at (links c.state_of-old.new.nodes) c.issue.result).parent} c.issue.ensures.next (ap (λ xs. (link_at (links xs) c.issue.result).parent) c.state_of-old.ensures.kept))
-          (◌∙◌ {b = set (links c.state_of-old.new.nodes) c.issue.result (linked 1 parent)} c.issue.ensures.links (ap (λ xs. set (links xs) c.issue.result (linked 1 parent)) c.state_of-old.ensures.kept))
-          (◌∙◌ {b = set (states c.state_of-old.new.nodes) c.issue.result c.move_of-state.result} c.issue.ensures.states (ap (λ xs. set (states xs) c.issue.result c.move_of-state.result) c.state_of-old.ensures.kept))
-          c.issue.ensures.free (c.loop-tip.invariant.moved w serial node issued t inv);
+          c.issue.ensures.first c.issue.ensures.next c.issue.ensures.links c.issue.ensures.states c.issue.ensures.free (c.loop-tip.invariant.moved w serial node issued t inv);
     }
 
 pub returns-clause-moved : goal.returns-clause-moved

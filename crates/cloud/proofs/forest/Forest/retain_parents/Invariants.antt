@@ -9,6 +9,6 @@ invariant-loop-parent g l = record {
   number : length l.children.items ≡ l.parent-index;
   kept : Keeps l.initial.self.nodes.now l.self.nodes.now;
   free : l.self.free ≡ l.initial.self.free;
-  children : l.children.items ≡ map (λ k. get_or l.old k 0) (take l.parent-index l.parents);
+  children : l.children.items ≡ map (λ k. get_or l.old.items k 0) (take l.parent-index l.parents);
   tree : (w serial : ℕ → ℕ) (issued : ℕ) → IsTree l.initial.self w serial issued → IsTree l.self (λ k. w k + sum_by (is_node k) l.children.items) serial issued;
 }

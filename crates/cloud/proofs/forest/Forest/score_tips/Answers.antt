@@ -12,9 +12,8 @@ loop-tip-preserved g c =
     let score = λ (x : g.row.S.Denot). guarded_score g.S.State.kind (g.M.Model.meaning c.args.model.now) x c.args.reading in
     record {
       number = omega (arith, c.push.ensures.len, c.loop-tip.invariant.number);
-      same = (λ j. record { nodes = record { ref_ptr = c.loop-tip.self.nodes.ref_ptr; ghost_name = c.loop-tip.self.nodes.ghost_name; now = c.state_of-state.ensures.kept j }; head = c.loop-tip.self.head; free = c.loop-tip.self.free }) ∙ c.loop-tip.invariant.same;
-      scores = scores_more score (states c.args.self.now.nodes.now) c.args.tips.now c.loop-tip.weights.items c.push.new.self.items c.loop-tip.tip-index c.score_of-weight.result c.push.ensures.items (sym c.loop-tip.invariant.number)
-          (λ d. c.score_of-weight.ensures ∙ ap score (c.state_of-state.ensures.value d ∙ ap (λ f. get_or (states f.nodes.now) (get_or c.args.tips.now c.loop-tip.tip-index 0) d) c.loop-tip.invariant.same))
+      scores = scores_more score (states c.args.self.now.nodes.now) c.args.tips.now.items c.loop-tip.weights.items c.push.new.self.items c.loop-tip.tip-index c.score_of-weight.result c.push.ensures.items (sym c.loop-tip.invariant.number)
+          (λ d. c.score_of-weight.ensures ∙ ap score (c.state_of-state.ensures d ∙ ap (λ xs. get_or (states c.args.self.now.nodes.now) (get_or xs c.loop-tip.tip-index 0) d) c.deref-tip-items.ensures.0))
           c.loop-tip.invariant.scores;
       sum = omega (arith, c.from-sum.ensures, c.loop-tip.invariant.sum, ap total c.push.ensures.items, sum_by_push (λ x. x) c.loop-tip.weights.items c.score_of-weight.result);
       bound = omega (arith, b, c.loop-tip.invariant.bound, c.from-sum.ensures);
