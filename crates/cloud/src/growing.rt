@@ -15,7 +15,7 @@ use sources::Source;
 
 // What every call leaves alone and what it promises (`same`, `count`, `rest`, `steps`, `runs`) is said of before and after, which no invariant of the cloud could carry.
 // Model and source stay two parameters, since a call may take either alone.
-// The tests of the phase stay where they are: a function for them would have three forms.
+// Each call tests the phase itself, in three lines: four calls want one phase, and two any phase but `Empty`.
 impl<S: State> Cloud<'_, S> {
     // Begins with n particles, each at the birth of a number of its own, drawn in particle order.
     pub fn start<M: Model<State = S>, R: Source>(
