@@ -42,6 +42,7 @@ pub(crate) fn make<S>(nodes: &mut [Node<S>]) -> Forest<S>
 }
 
 // What a method keeps, and what it makes free, is said of before and after, which no field and no invariant could carry.
+// That there are 256 parents at most is asked where they come in a slice, which has no such bound.
 impl<S: Copy> Forest<'_, S> {
     // One particle or hold more names the node.
     pub(crate) fn retain(&mut self, node: u16)

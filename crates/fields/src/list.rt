@@ -37,6 +37,7 @@ pub fn read_numbers(heap: Global, line: &[u8], limit: u16) -> Result<Vec<u16>, L
 {
     let mut numbers = Vec::new(heap);
     for field in line.split(|byte| *byte == b',') {
+        // as many numbers were read as there are fields before this one
         let number = read_field(field, numbers.len() + 1, u32::from(limit))?;
         numbers.push(number as u16)?;
     }

@@ -35,7 +35,7 @@ impl TryFrom<u8> for Command {
     }
 }
 
-// The map: bit x of row y is set where there is a wall.
+// The map: bit x of row y is set where there is a wall, as a log gives its rows.
 #[derive(Clone, Copy)]
 pub struct Grid {
     rows: [u32; 32],
