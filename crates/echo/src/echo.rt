@@ -29,6 +29,7 @@ impl Machine for Echo {
 
     ghost obeys = { echoes };
 
+    // one arm for each kind of line, which is all that a machine decides by
     fn obey(&mut self, line: Line, row: &mut [u32]) -> Result<Option<Reply<usize>>, Refusal> {
         let reply = match line {
             Line::Map { row: y, bits } => {
