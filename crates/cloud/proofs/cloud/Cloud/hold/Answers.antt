@@ -29,6 +29,18 @@ returns-in_default-first_closed-clause-steps g c k m q = (promised k (hold_no_pl
 pub returns-in_default-first_closed-clause-runs : goal.returns-in_default-first_closed-clause-runs
 returns-in_default-first_closed-clause-runs g c k m q = (promised k (hold_no_place m q (view c.args.self.now) c.args.particle (search rules) (omega (arith, c.in-Some.ensures.lookup.3.0, ap length c.deref.ensures.0)) c.in_default-first_closed.ensures)).1
 
+pub returns : goal.returns
+returns g c =
+    let kept = c.retain.new.self in
+    let go = λ (m : Meaning g.row.S.Denot) (q : Supply). hold_granted m q (view c.args.self.now) c.args.particle (search rules) (omega (arith, c.in-Some.ensures.lookup.3.0, ap length c.deref.ensures.0)) c.in-Some.field-0.now (ap (λ us. get_or us c.args.particle 0) (sym c.deref.ensures.0) ∙ ap (λ k. get_or c.deref.result.now k 0) (sym c.from.ensures) ∙ sym (c.in-Some.ensures.lookup.3.1 0)) c.in-Some-first_closed.place c.in-Some-first_closed.ensures.0 c.in-Some-first_closed.ensures.1 kept.nodes.now kept.head kept.free c.retain.ensures.free c.retain.ensures.kept c.retain.ensures.tree c.args.self.now.stamp refl in
+    record { same = refl; rest = refl; steps = λ k m q. (promised k (go m q)).0; runs = λ k m q. (promised k (go m q)).1 }
+
+pub invariant_of-self : goal.invariant_of-self
+invariant_of-self g c =
+    let kept = c.retain.new.self in
+    let go = λ (m : Meaning g.row.S.Denot) (q : Supply). hold_granted m q (view c.args.self.now) c.args.particle (search rules) (omega (arith, c.in-Some.ensures.lookup.3.0, ap length c.deref.ensures.0)) c.in-Some.field-0.now (ap (λ us. get_or us c.args.particle 0) (sym c.deref.ensures.0) ∙ ap (λ k. get_or c.deref.result.now k 0) (sym c.from.ensures) ∙ sym (c.in-Some.ensures.lookup.3.1 0)) c.in-Some-first_closed.place c.in-Some-first_closed.ensures.0 c.in-Some-first_closed.ensures.1 kept.nodes.now kept.head kept.free c.retain.ensures.free c.retain.ensures.kept c.retain.ensures.tree c.args.self.now.stamp refl in
+    record { represented = some_free (living_path (view c.args.self.now) (search rules)) go c.args.self.now.represented }
+
 pub retain-requires : goal.retain-requires
 retain-requires g c =
     let v = view c.args.self.now in
@@ -40,15 +52,3 @@ retain-requires g c =
       used = subst (λ k. 0 < (link_at (links_of c.args.self.now.forest) k).count) is (hold_used v c.args.self.now.represented c.args.particle inside few);
       room = subst (λ k. (link_at (links_of c.args.self.now.forest) k).count + 1 < 2 ^ 32) is (hold_room v c.args.self.now.represented c.args.particle inside few);
     }
-
-pub invariant_of-self : goal.invariant_of-self
-invariant_of-self g c =
-    let kept = c.retain.new.self in
-    let go = λ (m : Meaning g.row.S.Denot) (q : Supply). hold_granted m q (view c.args.self.now) c.args.particle (search rules) (omega (arith, c.in-Some.ensures.lookup.3.0, ap length c.deref.ensures.0)) c.in-Some.field-0.now (ap (λ us. get_or us c.args.particle 0) (sym c.deref.ensures.0) ∙ ap (λ k. get_or c.deref.result.now k 0) (sym c.from.ensures) ∙ sym (c.in-Some.ensures.lookup.3.1 0)) c.in-Some-first_closed.place c.in-Some-first_closed.ensures.0 c.in-Some-first_closed.ensures.1 kept.nodes.now kept.head kept.free c.retain.ensures.free c.retain.ensures.kept c.retain.ensures.tree c.args.self.now.stamp refl in
-    record { represented = some_free (living_path (view c.args.self.now) (search rules)) go c.args.self.now.represented }
-
-pub returns : goal.returns
-returns g c =
-    let kept = c.retain.new.self in
-    let go = λ (m : Meaning g.row.S.Denot) (q : Supply). hold_granted m q (view c.args.self.now) c.args.particle (search rules) (omega (arith, c.in-Some.ensures.lookup.3.0, ap length c.deref.ensures.0)) c.in-Some.field-0.now (ap (λ us. get_or us c.args.particle 0) (sym c.deref.ensures.0) ∙ ap (λ k. get_or c.deref.result.now k 0) (sym c.from.ensures) ∙ sym (c.in-Some.ensures.lookup.3.1 0)) c.in-Some-first_closed.place c.in-Some-first_closed.ensures.0 c.in-Some-first_closed.ensures.1 kept.nodes.now kept.head kept.free c.retain.ensures.free c.retain.ensures.kept c.retain.ensures.tree c.args.self.now.stamp refl in
-    record { same = refl; rest = refl; steps = λ k m q. (promised k (go m q)).0; runs = λ k m q. (promised k (go m q)).1 }
