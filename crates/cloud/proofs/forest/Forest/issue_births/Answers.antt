@@ -1,4 +1,4 @@
-use Rattle.std.proofs.Common.{◌≡◌, length, sym, refl, ap, ◌∙◌, arith}
+use Rattle.std.proofs.Common.{◌≡◌, ◌+◌, length, sym, refl, ap, ◌∙◌, arith}
 use Rattle.std.proofs.lemmas.List.{length-map}
 use Rattle.sources.proofs.Draws.{after_none}
 use Rattle.cloud.specs.Links.{links, states}
@@ -31,7 +31,7 @@ loop-preserved g c =
           born_step (links c.args.self.now.nodes.now) (links c.loop.self.nodes.now) (links c.issue.new.self.nodes.now) (states c.args.self.now.nodes.now) (states c.loop.self.nodes.now) (states c.issue.new.self.nodes.now) c.loop.self.head c.issue.new.self.head c.loop.self.free c.issue.new.self.free c.loop.tips.items c.push.new.self.items _ c.issue.result c.birth-state.result w serial node issued c.push.ensures.items lt
           (c.birth-state.ensures ∙ ap (g.M.Model.meaning c.args.model.now).birth (c.next_number.ensures.value ∙ number_now s _ c.loop.counter c.loop.invariant.rest ∙ ap s.to_come count))
           c.issue.ensures.first c.issue.ensures.next c.issue.ensures.links c.issue.ensures.states c.issue.ensures.free (c.loop.invariant.born w serial node issued t inv);
-      number = omega (arith, c.push.ensures.len, c.loop.invariant.number);
+      number = c.push.ensures.len ∙ ap (λ k. k + 1) c.loop.invariant.number;
       rest = rest_now s _ _ c.loop.counter c.loop.invariant.rest c.next_number.ensures.rest;
       same = c.next_number.ensures.same ∙ c.loop.invariant.same;
       free = omega (arith, c.loop.invariant.free, c.issue.ensures.free);
