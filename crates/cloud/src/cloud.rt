@@ -16,7 +16,7 @@ pub struct Cloud<'a, S> {
     pub(crate) tips: ArrayVec<u16, 256>,
     // the weight of each particle; apart from the tips, since resampling takes a slice of weights, and a call has no heap for a copy
     pub(crate) weights: ArrayVec<u16, 256>,
-    // the node of each open place
+    // the node of each open place; an array, since a place stays where it is while others open and close
     pub(crate) holds: [Option<u16>; 16],
     pub(crate) phase: Phase,
     pub(crate) round: u32,

@@ -15,7 +15,7 @@ use sources::Source;
 
 // What every call leaves alone and what it promises (`same`, `count`, `rest`, `steps`, `runs`) is said of before and after, which no invariant of the cloud could carry.
 // Model and source stay two parameters, since a call may take either alone.
-// Each call tests the phase itself, in three lines: four calls want one phase, and two any phase but `Empty`.
+// Each call makes its own tests, in the order of its refusals: a helper for one of them would need a definition of its reply, and the tests of the phase are of two kinds.
 impl<S: State> Cloud<'_, S> {
     // Begins with n particles, each at the birth of a number of its own, drawn in particle order.
     pub fn start<M: Model<State = S>, R: Source>(

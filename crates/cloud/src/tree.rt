@@ -1,5 +1,6 @@
 // The operations of the ancestry tree on its nodes.
-// They take the nodes, and the head beside them, and not the forest, so that the proof of the tree is apart from the count of free nodes. What they keep is said of before and after.
+// They take the nodes, and the head beside them, and not the forest, which has each again with head and count: so the proof of the tree is apart from the count of free nodes.
+// What they keep is said of before and after.
 ghost use Rattle.std.specs.Prelude.{◌≡◌, ℕ, ◌+◌, ◌-◌, ◌^◌, ◌<◌, ◌≤◌, length, Some, None, sum_by, Option as Maybe, slice_set};
 ghost use Rattle.cloud.specs.Links.{links, link_at, linked, raised, states, Keeps};
 ghost use Rattle.cloud.specs.Trees.{Tree, is_node, is_named, is_used, how_many, with_serial, SomeTreeFrom};

@@ -9,7 +9,7 @@ use models::model::Model;
 use refusals::Refusal;
 use sources::Source;
 
-// Draws a birth into each place of the row, in its order, and answers how many.
+// Draws a birth into each place of the row, in its order, and answers how many. The row is lent, since no call takes heap.
 // What a refusal leaves alone is said of before and after, which no type of the row or the source could carry.
 pub fn draw_births<M: Model, R: Source>(
     model: &M,

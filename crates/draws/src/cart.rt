@@ -1,5 +1,5 @@
 // Rows of a cart's poses: a floor layer over a slip layer over the grid, with the generator.
-// They are `draw_births` and `draw_moves` at one model, so that a caller need not name it, and the generic ones are shown at work.
+// They are `draw_births` and `draw_moves` at one model and one source: their contracts speak of this cart's own numbers, and no generic contract does.
 ghost use Rattle.std.specs.Prelude.{◌≡◌, true, false, length, is_ok, OnOk};
 ghost use Rattle.sources.specs.Generators.{generator_supply};
 ghost use Rattle.models.specs.Poses.{pose_kind};

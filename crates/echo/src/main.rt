@@ -11,7 +11,7 @@ use logs::run::write_report;
 use std::fmt;
 use std::io::{Stdout, Write};
 
-// The standard output as a `fmt::Write`, which a formatter asks for.
+// The standard output as a `fmt::Write`, which a formatter asks for; the library's streams are no such writer.
 #[derive(Drop)]
 struct Out {
     out: Stdout,

@@ -52,8 +52,8 @@ impl fmt::Display for Fault {
     fn fmt<W: fmt::Write>(&self, f: &mut fmt::Formatter<W>) -> fmt::Result {
         let number = self.number();
         match self.place() {
-            Some((line, field)) => write!(f, "!,{number},{line},{field}\n"),
-            None => write!(f, "!,{number}\n"),
+            Some((line, field)) => writeln!(f, "!,{number},{line},{field}"),
+            None => writeln!(f, "!,{number}"),
         }
     }
 }

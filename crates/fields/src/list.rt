@@ -37,7 +37,7 @@ pub fn read_numbers(heap: Global, line: &[u8], limit: u16) -> Result<Vec<u16>, L
 {
     let mut numbers = Vec::new(heap);
     for field in line.split(|byte| *byte == b',') {
-        // as many numbers were read as there are fields before this one
+        // one more than the numbers read so far; a `zip` with `1..` would count the same again
         let number = read_field(field, numbers.len() + 1, u32::from(limit))?;
         numbers.push(number as u16)?;
     }

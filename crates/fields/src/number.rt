@@ -17,7 +17,7 @@ fn number_within(digits: &[u8], limit: u32) -> Option<u32>
     requires { all_ascii_digits digits.now ≡ true }
     ensures { result ≡ within limit digits.now }
 {
-    // A `for`: the closure of a `try_fold` would hold the same `?` in more words.
+    // A `for`: tried as a `try_fold`, it stayed open that the closure meets digits alone, which its subtraction has to know.
     let mut number: u32 = 0;
     for byte in digits {
         let digit = u32::from(*byte - b'0');

@@ -46,7 +46,7 @@ pub enum Line {
 }
 
 // The fields after a line's letter, as many as a line can have.
-// A vector of them would ask for memory, and an Option for each would have no name for too many.
+// A `Vec` of them would ask for memory, the third place of an `ArrayVec` would have to stand for all that follow, and an Option for each would have no name for too many.
 #[derive(Clone, Copy)]
 pub enum Arguments<T> {
     Zero,

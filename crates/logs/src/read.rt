@@ -79,7 +79,7 @@ impl<'a> Arguments<&'a [u8]> {
     }
 }
 
-// What a line of this letter says by the fields after it. A number within its limit fits its type, so no cast loses bits.
+// What a line of this letter says by the fields after it. A number within its limit fits its type, so no cast loses bits, and `try_from` would add a fault that cannot come.
 fn line_by(letter: Letter, arguments: Arguments<&[u8]>) -> Result<Line, LineFault>
     ensures { result ≡ line_by letter (texts arguments.entry) }
 {

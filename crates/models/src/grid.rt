@@ -18,7 +18,7 @@ pub(crate) enum Command {
     TurnLeft,
 }
 
-// The numbers stand beside the names, as in the lift: an array and a look-up in it would leave them to be counted.
+// The numbers stand here, as in the lift, and not in the enum: no code is made of them, as of headings and modes, so a list of all cases beside their numbers would say more than this table.
 impl TryFrom<u8> for Command {
     type Error = Refusal;
 

@@ -6,7 +6,7 @@ use crate::state::State;
 use refusals::Refusal;
 
 // A model over one kind of state. Each answer is that of its meaning, and no question changes it.
-// Commands and readings are numbers here, since a log may ask any model for any; inside a model they are enums.
+// Commands and readings are numbers here, since a log may ask any model for any. Inside a model they are enums, but for the grid's readings, which are distances.
 pub trait Model {
     type State: State;
 

@@ -18,6 +18,7 @@ impl Heading {
     // Each heading at the place of its number.
     pub const ALL: [Heading; 4] = [Heading::North, Heading::East, Heading::South, Heading::West];
 
+    // The turns stay two: a function of how far would need a definition beside `right` and `left`, which the rules name.
     pub(crate) fn turned_right(self) -> Heading
         ensures { result ≡ right self }
     {

@@ -27,13 +27,13 @@ fn outcome(rt: &HostRuntime, heap: Global, entry: &str) -> anyhow::Result<Option
     Ok(Some(format!(in heap; "{name}: line {line} differs")?))
 }
 
-fn run(rt: &HostRuntime) -> anyhow::Result<()> {
+fn main(rt: HostRuntime) -> anyhow::Result<()> {
     let heap = rt.alloc();
-    let list = fs::read_to_string(rt, "list.txt")?;
+    let list = fs::read_to_string(&rt, "list.txt")?;
     let mut agree = 0u64;
     let mut differ = 0u64;
     for entry in list.lines() {
-        match outcome(rt, heap, entry)? {
+        match outcome(&rt, heap, entry)? {
             None => agree = agree.saturating_add(1),
             Some(text) => {
                 differ = differ.saturating_add(1);
@@ -43,8 +43,4 @@ fn run(rt: &HostRuntime) -> anyhow::Result<()> {
     }
     println!(rt; "{agree} agree, {differ} differ")?;
     Ok(())
-}
-
-fn main(rt: HostRuntime) -> anyhow::Result<()> {
-    run(&rt)
 }
