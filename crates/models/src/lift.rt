@@ -3,7 +3,7 @@ ghost use Rattle.std.specs.Prelude.{◌≡◌};
 ghost use Rattle.models.specs.Lifts.{run_on, command_reply, reading_reply, lift_meaning};
 ghost use Rattle.models.specs.Laws.{lift_lawful};
 
-use crate::lift_state::{LiftState, Mode};
+use crate::lift_state::{LiftState, MODES, Mode};
 use crate::model::Model as FilterModel;
 use crate::state::{State, ensure_state};
 use refusals::Refusal;
@@ -91,7 +91,7 @@ impl FilterModel for Lift {
     }
 
     fn birth(&self, number: u32) -> LiftState {
-        LiftState::begun(Mode::ALL[(number >> 30) as usize])
+        LiftState::begun(MODES[(number >> 30) as usize])
     }
 
     fn advance(&self, state: LiftState, command: u8, number: u32) -> Result<LiftState, Refusal> {

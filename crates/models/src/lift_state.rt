@@ -14,6 +14,9 @@ pub enum Mode {
     Lowering = 3,
 }
 
+// `Mode::ALL` in memory, as of headings.
+pub(crate) static MODES: [Mode; 4] = Mode::ALL;
+
 impl Mode {
     // Each mode at the place of its number.
     pub const ALL: [Mode; 4] = [Mode::Down, Mode::Rising, Mode::Up, Mode::Lowering];

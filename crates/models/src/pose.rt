@@ -14,6 +14,9 @@ pub enum Heading {
     West = 3,
 }
 
+// `Heading::ALL` in memory, for births, which do little else: a constant that is indexed is laid out anew on the stack at each use.
+pub(crate) static HEADINGS: [Heading; 4] = Heading::ALL;
+
 impl Heading {
     // Each heading at the place of its number.
     pub const ALL: [Heading; 4] = [Heading::North, Heading::East, Heading::South, Heading::West];

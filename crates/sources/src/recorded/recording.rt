@@ -40,8 +40,10 @@ impl Recorded {
         if self.count >= Self::ROOM {
             return Err(Refusal::NoRoom);
         }
-        self.numbers[self.count] = v;
-        self.count += 1;
+        // read once: after a write to the numbers it would be read again, and each record would wait for the one before
+        let at = self.count;
+        self.numbers[at] = v;
+        self.count = at + 1;
         Ok(())
     }
 
