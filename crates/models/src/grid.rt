@@ -122,8 +122,8 @@ impl FilterModel for Grid {
         }
     }
 
-    // A hint, for loops over rows: a call of its own passes the pose through memory, which costs more than the move.
-    #[inline]
+    // For loops over rows: a call of its own passes the pose through memory, which costs more than the move.
+    #[inline(always)]
     fn advance(&self, state: Pose, command: u8, number: u32) -> Result<Pose, Refusal> {
         let p = Placed::try_from(state)?;
         Ok(match Command::try_from(command)? {
